@@ -1,0 +1,4 @@
+pub mod Octets
+pub mod Kinds
+pub mod Flows
+pub mod Boxes

@@ -1,0 +1,64 @@
+//! The kind box: a division box, which parts the canal into two branches.
+ghost use Rattle.ordinate.specs.Boxes.{box as the-box};
+
+use crate::coordinate::from_octets;
+use crate::coordinate::is_between;
+use crate::coordinate::to_octets;
+use crate::kind::Ordinate;
+
+/// The flow into each branch, in grains.
+#[derive(Clone, Copy, PartialEq, Eq, Debug)]
+pub struct Branches {
+    pub left: i64,
+    pub right: i64,
+}
+
+/// How far from zero a leg's flows may lie: four times the limit of drawn flows.
+const REACH: i64 = 8_589_934_592;
+
+pub impl Ordinate for Branches as BoxOrdinate {
+    ghost kind = { the-box };
+
+    fn code() -> u8 {
+        2
+    }
+
+    fn dimension() -> usize {
+        2
+    }
+
+    fn zero() -> Branches {
+        Branches { left: 0, right: 0 }
+    }
+
+    fn octets(self, i: usize) -> [u8; 8] {
+        match i {
+            0 => to_octets(self.left),
+            1 => to_octets(self.right),
+            _ => to_octets(0),
+        }
+    }
+
+    fn with(self, i: usize, octets: [u8; 8]) -> Option<Branches> {
+        let value = from_octets(octets);
+        if !is_between(-REACH, REACH, value) {
+            return None;
+        }
+        match i {
+            0 => Some(Branches { left: value, right: self.right }),
+            1 => Some(Branches { left: self.left, right: value }),
+            _ => None,
+        }
+    }
+
+    fn in_range(self) -> bool {
+        if !is_between(-REACH, REACH, self.left) {
+            return false;
+        }
+        is_between(-REACH, REACH, self.right)
+    }
+
+    fn equal(self, other: Branches) -> bool {
+        self == other
+    }
+}
