@@ -1,0 +1,4 @@
+pub mod Legs
+pub mod Ticks
+pub mod Chains
+pub mod Values
