@@ -18,6 +18,10 @@ use Rattle.leg.specs.Values.{First-tells, Past, Past-last}
 use Rattle.leg.specs.declared.leg.Leg.{Leg}
 use Rattle.leg.specs.declared.leg.Stretch.{Stretch}
 
+pub last-stretch : {P : Type 0} (o : Option (Leg P)) (ls : List (Leg P)) → last-or (stretch-of o) (stretches ls) ≡ stretch-of (last-or o ls)
+last-stretch o [] = refl
+last-stretch o (l ∷ ls) = last-stretch (Some l) ls
+
 -- ---- the arithmetic, over plain numbers
 
 -- the last cell of a span ends with it
@@ -50,15 +54,15 @@ crossed-back c c′ e b a h m l =
 next-abuts : (p h : Stretch) → Next p h → Abuts p h
 next-abuts p h n =
     elim (cases-eq (p .cell .index + 1) (cells p)) [
-      inl e ↦
-        let x = n .after e in
-        let z : cells h * (p .from + p .ticks) + 0 * h .ticks ≡ cells h * (p .from + p .ticks) + 0 = omega arith in
-        let b : begins-at h ≡ cells h * (p .from + p .ticks) + 0 = ap₂ (λ (f k : ℕ). cells h * f + k * h .ticks) (x .0) (x .1) ∙ z in
-        abuts-after (cells p) (cells h) (p .from) (p .cell .index) (p .ticks) e ∙ ap (λ (y : ℕ). y * cells p) (sym b)
-    | inr ne ↦
-        let x = n .inside ne in
-        let b : begins-at h ≡ cells h * p .from + h .cell .index * p .ticks = ap₂ (λ (f t : ℕ). cells h * f + h .cell .index * t) (x .0) (x .1) in
-        abuts-inside (cells p) (cells h) (p .from) (p .cell .index) (h .cell .index) (p .ticks) (x .2) ∙ ap (λ (y : ℕ). y * cells p) (sym b)
+      | inl e ↦
+          let x = n .after e in
+          let z : cells h * (p .from + p .ticks) + 0 * h .ticks ≡ cells h * (p .from + p .ticks) + 0 = omega arith in
+          let b : begins-at h ≡ cells h * (p .from + p .ticks) + 0 = ap₂ (λ (f k : ℕ). cells h * f + k * h .ticks) (x .0) (x .1) ∙ z in
+          abuts-after (cells p) (cells h) (p .from) (p .cell .index) (p .ticks) e ∙ ap (λ (y : ℕ). y * cells p) (sym b)
+      | inr ne ↦
+          let x = n .inside ne in
+          let b : begins-at h ≡ cells h * p .from + h .cell .index * p .ticks = ap₂ (λ (f t : ℕ). cells h * f + h .cell .index * t) (x .0) (x .1) in
+          abuts-inside (cells p) (cells h) (p .from) (p .cell .index) (h .cell .index) (p .ticks) (x .2) ∙ ap (λ (y : ℕ). y * cells p) (sym b)
     ]
 
 goes-on-begins : (o : Option Stretch) (h : Stretch) → Goes-on o h → Begins-after o h
@@ -102,13 +106,9 @@ module _ (a : ℕ) where
   untold-upto o (l ∷ ls) i s (inr t) u =
       let up : cells (l .stretch) * a ≤ ends-at (l .stretch) = untold-upto (Some l) ls (i .1) (s .1) (t .1) u in
       elim (cases-lt (cells (l .stretch) * a) (begins-at (l .stretch))) [
-        inl lt ↦ upto-before (stretch-of o) (l .stretch) (s .0) lt
-      | inr ge ↦ absurd (t .0 _ (record { leg = i .0; covers = (ge, up); value = refl }))
+        | inl lt ↦ upto-before (stretch-of o) (l .stretch) (s .0) lt
+        | inr ge ↦ absurd (t .0 _ (record { leg = i .0; covers = (ge, up); value = refl }))
       ]
-
-  closed-last : (o : Option (Leg Flow)) (ls : List (Leg Flow)) → Closed (last-or (stretch-of o) (stretches ls)) → Closed (stretch-of (last-or o ls))
-  closed-last o [] c = c
-  closed-last o (l ∷ ls) c = closed-last (Some l) ls c
 
   upto-not-past : (o : Option (Leg Flow)) → Closed (stretch-of o) → Upto (stretch-of o) → Past-last o a → ⊥
   upto-not-past None c u p = u
@@ -124,17 +124,17 @@ module _ (a : ℕ) where
   upto-or-past (Some l) c n =
       let h = l .stretch in
       elim (cases-lt (h .from + h .ticks) a) [
-        inl lt ↦ lt
-      | inr ge ↦
-          let e = span-ends (cells h) (h .from) (h .cell .index) (h .ticks) c in
-          let x = mul-le-mul-left {m = a} {n = h .from + h .ticks} (cells h) ge in
-          absurd (n (omega arith))
+        | inl lt ↦ lt
+        | inr ge ↦
+            let e = span-ends (cells h) (h .from) (h .cell .index) (h .ticks) c in
+            let x = mul-le-mul-left {m = a} {n = h .from + h .ticks} (cells h) ge in
+            absurd (n (omega arith))
       ]
 
   -- No leg of a chain tells at the tick exactly where the tick is past the last leg, or there is none.
   pub untold-past : (ls : List (Leg Flow)) → Each (Is-leg flow) ls → Chained ls → First-tells ls a None → Past ls a
   untold-past ls i c f =
-      upto-or-past (last-or None ls) (closed-last None ls (c .closed)) (untold-upto None ls i (runs-seamless None (stretches ls) (c .ticks)) f)
+      upto-or-past (last-or None ls) (subst Closed (last-stretch None ls) (c .closed)) (untold-upto None ls i (runs-seamless None (stretches ls) (c .ticks)) f)
 
   pub told-not-past : (ls : List (Leg Flow)) (v : Flow) → Chained ls → First-tells ls a (Some v) → Past ls a → ⊥
-  told-not-past ls v c f = upto-not-past (last-or None ls) (closed-last None ls (c .closed)) (told-upto None ls v (runs-seamless None (stretches ls) (c .ticks)) f)
+  told-not-past ls v c f = upto-not-past (last-or None ls) (subst Closed (last-stretch None ls) (c .closed)) (told-upto None ls v (runs-seamless None (stretches ls) (c .ticks)) f)

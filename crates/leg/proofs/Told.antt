@@ -10,6 +10,7 @@ use native.Mathlib.Omega.{arith}
 use lib.IntN.{ℤ}
 use lib.ListN.{length, getD, drop}
 use lib.Seq.{drop-cons}
+use Rattle.std.specs.Options.{Cases}
 use Rattle.std.specs.declared.option.Option.{Option}
 use Rattle.std.specs.declared.option.Option.the-variants.{None, Some}
 use Rattle.std.proofs.shelf.Lists.{drop-all}
@@ -46,12 +47,13 @@ module _ (a : ℕ) where
   first-none ls i h = subst (λ (xs : List (Leg Flow)). First-tells xs a None) (sym (drop-all i ls h)) refl
 
   -- One leg more at the end: it is heard only where none before told.
-  pub first-push-some : (ls : List (Leg Flow)) (l : Leg Flow) (v : Flow) → First-tells ls a (Some v) → First-tells (ls ++ (l ∷ [])) a (Some v)
-  first-push-some [] l v e = let z : _≡_ {A = ℕ} 0 1 = cc in absurd (omega arith)
-  first-push-some (m ∷ ls) l v (inl t) = inl t
-  first-push-some (m ∷ ls) l v (inr t) = inr (t .0, first-push-some ls l v (t .1))
+  pub first-push-told : (ls : List (Leg Flow)) (l : Leg Flow) (r : Option Flow) → (r ≡ None → ⊥) → First-tells ls a r → First-tells (ls ++ (l ∷ [])) a r
+  first-push-told [] l r n e = absurd (n e)
+  first-push-told (m ∷ ls) l r n (inl t) = inl t
+  first-push-told (m ∷ ls) l r n (inr t) = inr (t .0, first-push-told ls l r n (t .1))
 
-  pub first-push : (ls : List (Leg Flow)) (l : Leg Flow) (r : Option Flow) → First-tells ls a None → First-tells (l ∷ []) a r → First-tells (ls ++ (l ∷ [])) a r
-  first-push [] l r e f = f
-  first-push (m ∷ ls) l r (inl t) f = let e = t .2 in let z : _≡_ {A = ℕ} 0 1 = cc in absurd (omega arith)
-  first-push (m ∷ ls) l r (inr t) f = inr (t .0, first-push ls l r (t .1) f)
+  pub first-push-untold : (ls : List (Leg Flow)) (l : Leg Flow) (o r : Option Flow) → o ≡ None → Cases r ((v : Flow) → Tells l a v → ⊥) (λ v. Tells l a v) → First-tells ls a o → First-tells (ls ++ (l ∷ [])) a r
+  first-push-untold [] l o None n t f = inr (t, refl)
+  first-push-untold [] l o (Some v) n t f = inl (v, t, refl)
+  first-push-untold (m ∷ ls) l o r n t (inl f) = let e = f .2 in let z : _≡_ {A = ℕ} 0 1 = cc in absurd (omega arith)
+  first-push-untold (m ∷ ls) l o r n t (inr f) = inr (f .0, first-push-untold ls l o r n t (f .1))

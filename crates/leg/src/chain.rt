@@ -5,7 +5,6 @@ ghost use lib.Dec.{T};
 ghost use Rattle.std.specs.declared.option.Option.the-variants.{Some as Just, None as Nothing};
 ghost use Rattle.leg.specs.Legs.{Stands};
 ghost use Rattle.leg.specs.Chains.{Last, Next, Standing, Closed-after, Follows};
-
 use crate::leg::Leg;
 use crate::leg::Stretch;
 use ordinate::kind::Ordinate;

@@ -1,7 +1,6 @@
 //! Which numbers and points a leg may have.
 ghost use lib.Dec.{T};
 ghost use Rattle.leg.specs.Legs.{Stands, Is-leg};
-
 use crate::leg::Leg;
 use crate::leg::Stretch;
 use ordinate::kind::Ordinate;

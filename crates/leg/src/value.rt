@@ -9,7 +9,6 @@ ghost use Rattle.ordinate.specs.declared.flow.Flow.{Flow as FlowT};
 ghost use Rattle.leg.specs.Legs.{Stands};
 ghost use Rattle.leg.specs.Ticks.{Covers, moment as the-moment};
 ghost use Rattle.leg.specs.Values.{floor, line, parabola, Tells, First-tells};
-
 use crate::leg::Leg;
 use crate::leg::Stretch;
 use ordinate::flow::Flow;
@@ -84,9 +83,13 @@ impl Leg<Flow> {
             return None;
         };
         if self.degree == 1 {
-            return Some(Flow { value: line_at(v, s, self.start.value, self.end.value) });
+            return Some(Flow {
+                value: line_at(v, s, self.start.value, self.end.value),
+            });
         }
-        Some(Flow { value: parabola_at(v, s, self.start.value, self.middle.value, self.end.value) })
+        Some(Flow {
+            value: parabola_at(v, s, self.start.value, self.middle.value, self.end.value),
+        })
     }
 }
 

@@ -1,2 +1,3 @@
 pub mod Be
 pub mod Points
+pub mod Lawfuls

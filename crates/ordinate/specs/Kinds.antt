@@ -8,11 +8,11 @@ use Rattle.ordinate.specs.Octets.{octets-of}
 
 -- A kind of ordinate, over the points P of the program.
 pub record Kind (P : Type 0) : Type 0 where
-  pub code : ℕ                  -- the octet that names it on a card
-  pub dimension : ℕ             -- how many coordinates a point has
-  pub least : ℤ                 -- the least coordinate that a leg may have
-  pub greatest : ℤ              -- and the greatest
-  pub coordinate : P → ℕ → ℤ    -- coordinate i, from 0; past the last it is 0
+  pub code : ℕ  -- the octet that names it on a card
+  pub dimension : ℕ  -- how many coordinates a point has
+  pub least : ℤ  -- the least coordinate that a leg may have
+  pub greatest : ℤ  -- and the greatest
+  pub coordinate : P → ℕ → ℤ  -- coordinate i, from 0; past the last it is 0
 
 abbrev pub Between : ℤ → ℤ → ℤ → Type 0
 Between low high z = (low ≤ℤ z) × (z ≤ℤ high)

@@ -1,6 +1,5 @@
 //! The kind box: a division box, which parts the canal into two branches.
 ghost use Rattle.ordinate.specs.Boxes.{box as the-box};
-
 use crate::coordinate::from_octets;
 use crate::coordinate::is_between;
 use crate::coordinate::to_octets;
@@ -45,8 +44,14 @@ pub impl Ordinate for Branches as BoxOrdinate {
             return None;
         }
         match i {
-            0 => Some(Branches { left: value, right: self.right }),
-            1 => Some(Branches { left: self.left, right: value }),
+            0 => Some(Branches {
+                left: value,
+                right: self.right,
+            }),
+            1 => Some(Branches {
+                left: self.left,
+                right: value,
+            }),
             _ => None,
         }
     }

@@ -1,6 +1,5 @@
 //! The kind flow: what passes a single gate.
 ghost use Rattle.ordinate.specs.Flows.{flow as the-flow};
-
 use crate::coordinate::from_octets;
 use crate::coordinate::is_between;
 use crate::coordinate::to_octets;
@@ -14,7 +13,6 @@ pub struct Flow {
 
 /// How far from zero a leg's flows may lie: four times the limit of drawn flows.
 const REACH: i64 = 8_589_934_592;
-
 
 pub impl Ordinate for Flow as FlowOrdinate {
     ghost kind = { the-flow };
@@ -32,7 +30,11 @@ pub impl Ordinate for Flow as FlowOrdinate {
     }
 
     fn octets(self, i: usize) -> [u8; 8] {
-        if i == 0 { to_octets(self.value) } else { to_octets(0) }
+        if i == 0 {
+            to_octets(self.value)
+        } else {
+            to_octets(0)
+        }
     }
 
     fn with(self, i: usize, octets: [u8; 8]) -> Option<Flow> {

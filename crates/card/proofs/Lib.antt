@@ -1,0 +1,5 @@
+pub mod Codec
+pub mod Headers
+pub mod Reading
+pub mod Carried
+pub mod Values

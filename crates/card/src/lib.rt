@@ -1,0 +1,10 @@
+//! The card: the legs of a turn as octets, and the reader that a gate drive uses without the planner.
+pub mod any;
+pub mod calls;
+pub mod header;
+mod octets;
+pub mod read;
+pub mod record;
+pub mod refusal;
+pub mod value;
+mod walk;
