@@ -1,18 +1,16 @@
--- Weighted coordinates of a leg fit 64 bits, and a quotient rounded down is the one that the machine gives.
-use mathlib.Core.Path.{_≡_, refl, ap₂}
+-- Weighted coordinates of a leg, and their sums, fit 64 bits.
+use mathlib.Core.Path.{_≡_, ap₂}
 use Prim.Native.Nat.{ℕ, suc, _+_, _*_, _≤_, _<_}
 use native.Mathlib.Omega.{arith}
 use lib.IntN.{ℤ, pos, negsuc, negℤ, _+ℤ_, _*ℤ_}
 use lib.Signed.{_≤ℤ_}
 use mir.Val.{SFits, toZ, ofZ}
 use mir.Syntax.{w64}
-use Rattle.std.specs.Numbers.{divEuclid}
 use Rattle.std.proofs.shelf.Bits.{mul-le}
 use Rattle.std.proofs.shelf.Signed.{ints}
 use Rattle.ordinate.specs.Kinds.{Between}
 use Rattle.ordinate.specs.Flows.{flow}
 use Rattle.ordinate.proofs.Be.{between-fits}
-use Rattle.leg.specs.Values.{floor}
 
 -- a coordinate of a flow leg, and the same under a weight
 abbrev pub Reached : ℤ → Type 0
@@ -46,7 +44,3 @@ three-sum x y z a b d =
 pub three-fits : (x y z : ℤ) → Weighted x → Weighted y → Weighted z → SFits w64 (x +ℤ y +ℤ z)
 three-fits x y z a b d =
     between-fits (negℤ (pos 1152921504606846976)) (pos 1152921504606846976) (x +ℤ y +ℤ z) (omega (arith, ints)) (omega (arith, ints)) (omega (arith, ints), omega (arith, ints))
-
-pub euclid-floor : (z : ℤ) (n : ℕ) → divEuclid z (pos n) ≡ floor z n
-euclid-floor (pos a) n = refl
-euclid-floor (negsuc a) n = refl

@@ -46,6 +46,14 @@ fn weighted(weight: u32, value: i64) -> i64
     weight as i64 * value
 }
 
+/// sum / parts, rounded towards minus infinity.
+fn rounded_down(sum: i64, parts: u32) -> i64
+    requires { ⌜ 1 ≤ parts ⌝ }
+    ensures { λ r. ⌜ r ≡ floor sum parts ⌝ }
+{
+    sum.div_euclid(parts as i64)
+}
+
 fn line_at(v: u32, s: u32, p: i64, z: i64) -> i64
     requires some { ⌜ 1 ≤ v ⌝ }
     requires few { ⌜ v ≤ 4096 ⌝ }
@@ -54,7 +62,7 @@ fn line_at(v: u32, s: u32, p: i64, z: i64) -> i64
     requires end { ⌜ Between (flow .least) (flow .greatest) z ⌝ }
     ensures { λ r. ⌜ r ≡ floor (line v s p z) v ⌝ }
 {
-    (weighted(v - s, p) + weighted(s, z)).div_euclid(v as i64)
+    rounded_down(weighted(v - s, p) + weighted(s, z), v)
 }
 
 fn parabola_at(v: u32, s: u32, p: i64, q: i64, z: i64) -> i64
@@ -68,7 +76,7 @@ fn parabola_at(v: u32, s: u32, p: i64, q: i64, z: i64) -> i64
 {
     let rest = v - s;
     let sum = weighted(rest * rest, p) + weighted(2 * s * rest, q) + weighted(s * s, z);
-    sum.div_euclid((v * v) as i64)
+    rounded_down(sum, v * v)
 }
 
 impl Leg<Flow> {

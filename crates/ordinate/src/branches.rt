@@ -4,6 +4,7 @@ use crate::coordinate::from_octets;
 use crate::coordinate::is_between;
 use crate::coordinate::to_octets;
 use crate::kind::Ordinate;
+use std::fmt;
 
 /// The flow into each branch, in grains.
 #[derive(Clone, Copy, PartialEq, Eq, Debug)]
@@ -12,6 +13,10 @@ pub struct Branches {
     pub right: i64,
 }
 
+const CODE: u8 = 2;
+
+const DIMENSION: usize = 2;
+
 /// How far from zero a leg's flows may lie: four times the limit of drawn flows.
 const REACH: i64 = 8_589_934_592;
 
@@ -19,11 +24,11 @@ pub impl Ordinate for Branches as BoxOrdinate {
     ghost kind = { the-box };
 
     fn code() -> u8 {
-        2
+        CODE
     }
 
     fn dimension() -> usize {
-        2
+        DIMENSION
     }
 
     fn zero() -> Branches {
@@ -65,5 +70,14 @@ pub impl Ordinate for Branches as BoxOrdinate {
 
     fn equal(self, other: Branches) -> bool {
         self == other
+    }
+}
+
+/// As in `(3, -5)`.
+pub impl fmt::Display for Branches as BranchesDisplay {
+    fn fmt<W: fmt::Write>(&self, f: &mut fmt::Formatter<W>) -> fmt::Result {
+        let left = self.left;
+        let right = self.right;
+        write!(f, "({left}, {right})")
     }
 }

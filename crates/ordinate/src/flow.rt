@@ -4,12 +4,17 @@ use crate::coordinate::from_octets;
 use crate::coordinate::is_between;
 use crate::coordinate::to_octets;
 use crate::kind::Ordinate;
+use std::fmt;
 
 /// A flow in grains; a grain is 1/65,536 litre per second.
 #[derive(Clone, Copy, PartialEq, Eq, Debug)]
 pub struct Flow {
     pub value: i64,
 }
+
+const CODE: u8 = 1;
+
+const DIMENSION: usize = 1;
 
 /// How far from zero a leg's flows may lie: four times the limit of drawn flows.
 const REACH: i64 = 8_589_934_592;
@@ -18,11 +23,11 @@ pub impl Ordinate for Flow as FlowOrdinate {
     ghost kind = { the-flow };
 
     fn code() -> u8 {
-        1
+        CODE
     }
 
     fn dimension() -> usize {
-        1
+        DIMENSION
     }
 
     fn zero() -> Flow {
@@ -51,5 +56,13 @@ pub impl Ordinate for Flow as FlowOrdinate {
 
     fn equal(self, other: Flow) -> bool {
         self == other
+    }
+}
+
+/// As in `-5`.
+pub impl fmt::Display for Flow as FlowDisplay {
+    fn fmt<W: fmt::Write>(&self, f: &mut fmt::Formatter<W>) -> fmt::Result {
+        let value = self.value;
+        write!(f, "{value}")
     }
 }

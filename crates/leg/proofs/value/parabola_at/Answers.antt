@@ -5,11 +5,10 @@ use Prim.Native.Nat.{ℕ, _-_, _*_}
 use lib.IntN.{ℤ, pos, _+ℤ_, _*ℤ_}
 use mir.Val.{SFits, toZ, ofZ}
 use mir.Syntax.{w64}
-use Rattle.std.specs.Numbers.{divEuclid}
 use Rattle.std.proofs.shelf.Bits.{mul-le}
-use Rattle.std.proofs.shelf.Signed.{toZ-ofZ, ofZ-toZ, toZ-pos}
-use Rattle.leg.specs.Values.{parabola}
-use Rattle.leg.proofs.Weights.{Reached, euclid-floor, square-small, twice-small, three-sum, three-fits}
+use Rattle.std.proofs.shelf.Signed.{toZ-ofZ}
+use Rattle.leg.specs.Values.{floor}
+use Rattle.leg.proofs.Weights.{Reached, square-small, twice-small, three-sum, three-fits}
 use Rattle.leg.proofs.value.parabola_at.Needs as need
 
 pub weighted-requires : need.weighted-requires
@@ -35,13 +34,8 @@ add-sum-2 c =
     subst (SFits w64) (sym (three-sum (c .weighted .result) (c .weighted-2 .result) (c .weighted-3 .result) x y z))
     (three-fits (c .weighted .result) (c .weighted-2 .result) (c .weighted-3 .result) x y z)
 
-pub div-euclid-requires : need.div-euclid-requires
-div-euclid-requires c κs =
-    let v = c .args .v in
-    let m = square-small v v (c .pre .few) (c .pre .few) in
-    let l = mul-le 1 1 v v (c .pre .some) (c .pre .some) in
-    let e = ofZ-toZ w64 (v * v) (omega arith) in
-    record { nonzero = omega arith; fits = λ a b. omega arith }
+pub rounded-down-requires : need.rounded-down-requires
+rounded-down-requires c κs = mul-le 1 1 (c .args .v) (c .args .v) (c .pre .some) (c .pre .some)
 
 pub returns : need.returns
 returns c =
@@ -53,13 +47,11 @@ returns c =
     let a = c .weighted .result in
     let b = c .weighted-2 .result in
     let d = c .weighted-3 .result in
-    let m = square-small v v (c .pre .few) (c .pre .few) in
     let ea : a ≡ pos ((v - s) * (v - s)) *ℤ c .args .p = c .weighted .ensures .value ∙ ap (λ (t : ℤ). pos ((v - s) * (v - s)) *ℤ t) (toZ-ofZ w64 (c .args .p) (c .fits .p)) in
     let eb : b ≡ pos (2 * s * (v - s)) *ℤ c .args .q = c .weighted-2 .ensures .value ∙ ap (λ (t : ℤ). pos (2 * s * (v - s)) *ℤ t) (toZ-ofZ w64 (c .args .q) (c .fits .q)) in
     let ed : d ≡ pos (s * s) *ℤ c .args .z = c .weighted-3 .ensures .value ∙ ap (λ (t : ℤ). pos (s * s) *ℤ t) (toZ-ofZ w64 (c .args .z) (c .fits .z)) in
     let e = three-sum a b d x y z in
-    let ev : toZ w64 (v * v) ≡ pos (v * v) = toZ-pos w64 (v * v) (omega arith) in
-    let fits : SFits w64 (c .div-euclid .result) = search needs in
-    toZ-ofZ w64 _ fits ∙ c .div-euclid .ensures
-    ∙ ap₂ divEuclid (ap (λ (t : ℤ). toZ w64 (ofZ w64 t)) e ∙ toZ-ofZ w64 (a +ℤ b +ℤ d) (three-fits a b d x y z) ∙ ap₂ (λ (t u : ℤ). t +ℤ u) (ap₂ (λ (t u : ℤ). t +ℤ u) ea eb) ed) ev
-    ∙ euclid-floor (parabola v s (c .args .p) (c .args .q) (c .args .z)) (v * v)
+    let fits : SFits w64 (c .rounded-down .result) = search needs in
+    toZ-ofZ w64 _ fits ∙ c .rounded-down .ensures
+    ∙ ap (λ (t : ℤ). floor t (v * v))
+    (ap (λ (t : ℤ). toZ w64 (ofZ w64 t)) e ∙ toZ-ofZ w64 (a +ℤ b +ℤ d) (three-fits a b d x y z) ∙ ap₂ (λ (t u : ℤ). t +ℤ u) (ap₂ (λ (t u : ℤ). t +ℤ u) ea eb) ed)
