@@ -14,7 +14,7 @@ use Rattle.std.proofs.shelf.Lists.{append-assoc, take-at, drop-at, drop-drop, t
 use Rattle.std.proofs.shelf.Tests.{cases-lt}
 use Rattle.ordinate.specs.Octets.{be}
 use Rattle.ordinate.specs.Kinds.{Kind, Lawful}
-use Rattle.ordinate.proofs.Be.{length-be}
+use Rattle.ordinate.proofs.Be.{length-be, number-be}
 use Rattle.leg.specs.Legs.{Is-leg}
 use Rattle.leg.specs.Chains.{Each, Runs-on, Joined, Chained, Closed, Closed-after, last-or, stretches, stretch-of}
 use Rattle.leg.specs.declared.leg.Leg.{Leg}
@@ -24,7 +24,7 @@ use Rattle.card.specs.Records.{record-octets, record-length}
 use Rattle.card.specs.Cards.{front, header, records, card-of, capacity, count-of, record-at, Reads, Counts, Carries, reasons}
 use Rattle.card.specs.declared.refusal.Refusal.{Refusal}
 use Rattle.card.proofs.Codec.{record-length-is}
-use Rattle.card.proofs.Headers.{number-be, capacity-room, capacity-limit}
+use Rattle.card.proofs.Headers.{capacity-room, capacity-limit}
 use Rattle.card.proofs.Reading.{reads-same, reasons-single, first-one, answer-none}
 
 -- ---- zeros to the end
@@ -43,10 +43,10 @@ next-at : (w i : ℕ) → 8 + w * i + w ≡ 8 + w * suc i
 next-at w i = omega arith
 
 module _ {P : Type 0} (K : Kind P) where
-  front-length : length (front K) ≡ 4
+  pub front-length : length (front K) ≡ 4
   front-length = simp length-append (omega (arith, length-be 1 (K .code), length-be 1 1, length-be 2 (record-length K)))
 
-  records-length : (ls : List (Leg P)) → length (records K ls) ≡ record-length K * length ls
+  pub records-length : (ls : List (Leg P)) → length (records K ls) ≡ record-length K * length ls
   records-length [] = omega arith
   records-length (l ∷ ls) = length-append (record-octets K l) (records K ls) ∙ omega (arith, record-length-is K l, records-length ls)
 

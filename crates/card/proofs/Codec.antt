@@ -1,150 +1,190 @@
--- A record's octets tell its leg.
+-- A record's octets tell its leg, and the data in a record its octets.
 use mathlib.Core.List.{List, [], _∷_, _++_}
 use mathlib.Core.Logic.{inl, inr}
 use mathlib.Core.Path.{_≡_, refl, sym, ap, ap₂, subst, _∙_}
-use Prim.Native.Nat.{ℕ, _+_, _*_, _^_, _≤_, _<_}
+use Prim.Native.Nat.{ℕ, zero, suc, _+_, _-_, _*_, _^_, _≤_, _<_}
 use native.Mathlib.Nat.{pow-le-pow-right, lt-of-lt-of-le}
+use native.Mathlib.Numerals.{add-one}
 use native.Mathlib.Omega.{arith}
-use lib.ListN.{length, take, drop, length-append}
-use Rattle.std.proofs.shelf.Lists.{take-at, drop-at, append-nil}
-use Rattle.ordinate.specs.Octets.{be}
-use Rattle.ordinate.specs.Kinds.{Kind, Lawful, In-range, point-octets}
-use Rattle.ordinate.proofs.Be.{length-be, be-same}
-use Rattle.ordinate.proofs.Points.{length-coordinates, point-told}
-use Rattle.leg.specs.Legs.{Stands, Is-leg}
-use Rattle.leg.specs.declared.leg.Cell.{Cell}
+use lib.IntN.{ℤ}
+use lib.ListN.{length, take, drop, getD, length-append, length-take, length-drop}
+use lib.Seq.{take-add, take-all, take-append-le, drop-append-le}
+use Rattle.std.specs.shelf.Digits.{number}
+use Rattle.std.proofs.shelf.Tests.{cases-lt}
+use Rattle.std.proofs.shelf.Lists.{getD-past, take-at, drop-at, append-nil, append-assoc, drop-drop, drop-all, take-append-drop, getD-take, getD-drop}
+use Rattle.ordinate.specs.Octets.{be, octets-of, coordinate-of}
+use Rattle.ordinate.specs.Kinds.{Kind, Lawful, In-range, coordinates, point-octets}
+use Rattle.ordinate.proofs.Be.{length-be, be-number, number-be, octets-written, coordinate-written}
+use Rattle.ordinate.proofs.Points.{admitted-fits, coordinates-none, coordinates-more, coordinates-same, coordinates-at, length-coordinates}
+use Rattle.leg.specs.Legs.{Is-leg}
 use Rattle.leg.specs.declared.leg.Leg.{Leg}
 use Rattle.leg.specs.declared.leg.Stretch.{Stretch}
-use Rattle.card.specs.Records.{parts, Small, Same, Made-of, head-octets, record-octets, record-length}
+use Rattle.card.specs.Records.{parts, field, point-at, leg-of, head-octets, record-octets, record-length}
 
--- ---- octets and numbers
+-- ---- numbers
 pub octet-room : (i n x : ℕ) → x < 256 ^ i → i < n → n ≤ 8 → x < 72057594037927936
 octet-room i n x h k l = lt-of-lt-of-le h (pow-le-pow-right {n = 256} (omega arith) {i = i} {j = 7} (omega arith))
 
-pub be-at : (n x : ℕ) (xs : List ℕ) → length xs ≡ n → be (length xs) x ≡ xs → be n x ≡ xs
-be-at n x xs l e = ap (λ (k : ℕ). be k x) (sym l) ∙ e
+pub octets-below : (i n x : ℕ) → x < 256 ^ i → i ≤ n → x < 256 ^ n
+octets-below i n x h k = lt-of-lt-of-le h (pow-le-pow-right {n = 256} (omega arith) {i = i} {j = n} k)
 
-pub be-bound : (n k x : ℕ) → k ≡ n → x < 256 ^ k → x < 256 ^ n
-be-bound n k x e h = subst (λ (m : ℕ). x < 256 ^ m) e h
+abbrev pub Octets : List ℕ → Type 0
+Octets xs = (i : ℕ) → getD xs i 0 < 256
 
--- ---- parts
-pub cut : {X : Type 0} (a b r s : List X) → length a ≡ length b → a ++ r ≡ b ++ s → (a ≡ b) × (r ≡ s)
-cut a b r s len e =
-    let n = length a in (
-      sym (take-at a r n refl) ∙ ap (take n) e ∙ take-at b s n (sym len),
-      sym (drop-at a r n refl) ∙ ap (drop n) e ∙ drop-at b s n (sym len),
-    )
+-- ---- parts of octets
+part-octets : (xs : List ℕ) → Octets xs → (at n : ℕ) → Octets (take n (drop at xs))
+part-octets xs h at n i =
+    elim (cases-lt i n) [
+      | inl l ↦ subst (λ (v : ℕ). v < 256) (sym (getD-take n (drop at xs) i 0 l ∙ getD-drop at xs i 0)) (h (at + i))
+      | inr g ↦ subst (λ (v : ℕ). v < 256) (sym (getD-past (take n (drop at xs)) i 0 (omega (arith, length-take n (drop at xs))))) (omega arith)
+    ]
 
-pub six : (o a r b s c t d u e f : List ℕ) → o ≡ a ++ r → r ≡ b ++ s → s ≡ c ++ t → t ≡ d ++ u → u ≡ e ++ f → o ≡ parts (a ∷ b ∷ c ∷ d ∷ e ∷ f ∷ [])
-six o a r b s c t d u e f p q x y z = let n = append-nil f in cc
+part-length : (xs : List ℕ) (at n : ℕ) → at + n ≤ length xs → length (take n (drop at xs)) ≡ n
+part-length xs at n h = omega (arith, length-take n (drop at xs), length-drop at xs)
 
-four : (o a r b s c d : List ℕ) → o ≡ a ++ r → r ≡ b ++ s → s ≡ c ++ d → o ≡ parts (a ∷ b ∷ c ∷ d ∷ [])
-four o a r b s c d p q x = let n = append-nil d in cc
+pub part-off : (xs : List ℕ) (at n : ℕ) → drop at xs ≡ take n (drop at xs) ++ drop (at + n) xs
+part-off xs at n = sym (take-append-drop n (drop at xs)) ∙ ap (λ (ys : List ℕ). take n (drop at xs) ++ ys) (drop-drop n at xs)
 
--- ---- the head
-pub head-cut : (h : Stretch) (m : ℕ) (a b x d k f : List ℕ) → length a ≡ 4 → length b ≡ 2 → length x ≡ 1 → length d ≡ 1 → length k ≡ 2 → length f ≡ 2
-    → head-octets h m ≡ parts (a ∷ b ∷ x ∷ d ∷ k ∷ f ∷ [])
-    → (be 4 (h .from) ≡ a) × (be 2 (h .ticks) ≡ b) × (be 1 (h .cell .depth) ≡ x) × (be 1 m ≡ d) × (be 2 (h .cell .index) ≡ k) × (be 2 0 ≡ f)
-head-cut h m a b x d k f la lb lx ld lk lf e =
-    let p = be 4 (h .from) in
-    let q = be 2 (h .ticks) in
-    let r = be 1 (h .cell .depth) in
-    let s = be 1 m in
-    let t = be 2 (h .cell .index) in
-    let u = be 2 0 in
-    let c₁ = cut p a (parts (q ∷ r ∷ s ∷ t ∷ u ∷ [])) (parts (b ∷ x ∷ d ∷ k ∷ f ∷ [])) (length-be 4 (h .from) ∙ sym la) e in
-    let c₂ = cut q b (parts (r ∷ s ∷ t ∷ u ∷ [])) (parts (x ∷ d ∷ k ∷ f ∷ [])) (length-be 2 (h .ticks) ∙ sym lb) (c₁ .1) in
-    let c₃ = cut r x (parts (s ∷ t ∷ u ∷ [])) (parts (d ∷ k ∷ f ∷ [])) (length-be 1 (h .cell .depth) ∙ sym lx) (c₂ .1) in
-    let c₄ = cut s d (parts (t ∷ u ∷ [])) (parts (k ∷ f ∷ [])) (length-be 1 m ∙ sym ld) (c₃ .1) in
-    let c₅ = cut t k (parts (u ∷ [])) (parts (f ∷ [])) (length-be 2 (h .cell .index) ∙ sym lk) (c₄ .1) in
-    let c₆ = cut u f [] [] (length-be 2 0 ∙ sym lf) (c₅ .1) in
-    (c₁ .0, c₂ .0, c₃ .0, c₄ .0, c₅ .0, c₆ .0)
+-- what stands at the front, and the rest
+pub rest-of : (at n : ℕ) (x rest ys : List ℕ) → drop at ys ≡ x ++ rest → length x ≡ n → drop (at + n) ys ≡ rest
+rest-of at n x rest ys e l = sym (drop-drop n at ys) ∙ ap (drop n) e ∙ drop-at x rest n l
 
-abbrev stretch : ℕ → ℕ → ℕ → ℕ → Stretch
-stretch S L d k = record { from = S; ticks = L; cell = record { depth = d; index = k } }
+pub field-read : (at n v : ℕ) (rest ys : List ℕ) → drop at ys ≡ be n v ++ rest → v < 256 ^ n → field at n ys ≡ v
+field-read at n v rest ys e h = ap (number 256) (ap (take n) e ∙ take-at (be n v) rest n (length-be n v)) ∙ number-be n v h
 
-head-told : (h h′ : Stretch) (m m′ : ℕ) → Small h m → Small h′ m′ → head-octets h m ≡ head-octets h′ m′ → (h ≡ h′) × (m ≡ m′)
-head-told h h′ m m′ s s′ e =
-    let c = head-cut h m (be 4 (h′ .from)) (be 2 (h′ .ticks)) (be 1 (h′ .cell .depth)) (be 1 m′) (be 2 (h′ .cell .index)) (be 2 0)
-    (length-be 4 (h′ .from)) (length-be 2 (h′ .ticks)) (length-be 1 (h′ .cell .depth)) (length-be 1 m′) (length-be 2 (h′ .cell .index)) (length-be 2 0) e in
-    let a = be-same 4 (h .from) (h′ .from) (s .from-4) (s′ .from-4) (c .0) in
-    let b = be-same 2 (h .ticks) (h′ .ticks) (s .ticks-2) (s′ .ticks-2) (c .1) in
-    let x = be-same 1 (h .cell .depth) (h′ .cell .depth) (s .depth-1) (s′ .depth-1) (c .2) in
-    let d = be-same 1 m m′ (s .degree-1) (s′ .degree-1) (c .3) in
-    let k = be-same 2 (h .cell .index) (h′ .cell .index) (s .index-2) (s′ .index-2) (c .4) in
-    (ap₂ (λ (S L : ℕ). stretch S L (h .cell .depth) (h .cell .index)) a b ∙ ap₂ (λ (D K : ℕ). stretch (h′ .from) (h′ .ticks) D K) x k, d)
+pub field-written : (xs : List ℕ) → Octets xs → (at n : ℕ) → at + n ≤ length xs → be n (field at n xs) ≡ take n (drop at xs)
+field-written xs h at n l =
+    ap (λ (k : ℕ). be k (field at n xs)) (sym (part-length xs at n l)) ∙ be-number (take n (drop at xs)) (part-octets xs h at n)
 
-head-length : (h : Stretch) (m : ℕ) → length (head-octets h m) ≡ 12
-head-length h m =
-    simp length-append (omega (arith, length-be 4 (h .from), length-be 2 (h .ticks), length-be 1 (h .cell .depth), length-be 1 m, length-be 2 (h .cell .index), length-be 2 0))
+-- ---- points and records
+leg-same : {P : Type 0} (K : Kind P) (l l′ : Leg P) → l .stretch .from ≡ l′ .stretch .from → l .stretch .ticks ≡ l′ .stretch .ticks → l .stretch .cell .depth ≡ l′ .stretch .cell .depth → l .degree ≡ l′ .degree
+    → l .stretch .cell .index ≡ l′ .stretch .cell .index → l .start ≡ l′ .start → l .middle ≡ l′ .middle → l .end ≡ l′ .end → l ≡ l′
+leg-same {P} K l l′ a b c d e f g h =
+    let made : ℕ → ℕ → ℕ → ℕ → ℕ → P → P → P → Leg P = (λ S L d k m s q z. record { stretch = record { from = S; ticks = L; cell = record { depth = d; index = k } }; degree = m; start = s; middle = q; end = z }) in
+    ap₂ (λ (x y : ℕ). made x y (l .stretch .cell .depth) (l .stretch .cell .index) (l .degree) (l .start) (l .middle) (l .end)) a b
+    ∙ ap₂ (λ (x y : ℕ). made (l′ .stretch .from) (l′ .stretch .ticks) x y (l .degree) (l .start) (l .middle) (l .end)) c e
+    ∙ ap₂ (λ (x : ℕ) (y : P). made (l′ .stretch .from) (l′ .stretch .ticks) (l′ .stretch .cell .depth) (l′ .stretch .cell .index) x y (l .middle) (l .end)) d f
+    ∙ ap₂ (λ (x y : P). made (l′ .stretch .from) (l′ .stretch .ticks) (l′ .stretch .cell .depth) (l′ .stretch .cell .index) (l′ .degree) (l′ .start) x y) g h
 
-leg-small : {P : Type 0} (K : Kind P) (l : Leg P) → Is-leg K l → Small (l .stretch) (l .degree)
-leg-small K l i =
-    let n = i .place in
-    let p : 2 ^ l .stretch .cell .depth ≤ 1024 = pow-le-pow-right {n = 2} (omega arith) {i = l .stretch .cell .depth} {j = 10} (n .shallow) in
-    record {
-      from-4 = omega arith;
-      ticks-2 = omega arith;
-      depth-1 = omega arith;
-      degree-1 = elim (i .one-or-two) [ inl e ↦ omega arith | inr e ↦ omega arith ];
-      index-2 = omega arith;
-    }
-
-four-length : (a b c d : List ℕ) → length (parts (a ∷ b ∷ c ∷ d ∷ [])) ≡ length a + (length b + (length c + length d))
-four-length a b c d = simp length-append (omega arith)
-
--- ---- the record
 module _ {P : Type 0} (K : Kind P) where
-  point-length : (p : P) → length (point-octets K p) ≡ 8 * K .dimension
+  abbrev w : ℕ
+  w = 8 * K .dimension
+
+  point-length : (p : P) → length (point-octets K p) ≡ w
   point-length p = length-coordinates (K .dimension) (K .coordinate p)
+
+  -- a record as its nine fields
+  abbrev fields : Leg P → List (List ℕ)
+  fields l =
+      be 4 (l .stretch .from)
+      ∷ be 2 (l .stretch .ticks)
+      ∷ be 1 (l .stretch .cell .depth)
+      ∷ be 1 (l .degree)
+      ∷ be 2 (l .stretch .cell .index)
+      ∷ be 2 0
+      ∷ point-octets K (l .start)
+      ∷ point-octets K (l .middle)
+      ∷ point-octets K (l .end)
+      ∷ []
+
+  pub as-fields : (l : Leg P) → record-octets K l ≡ parts (fields l)
+  as-fields l = simp append-assoc
 
   pub record-length-is : (l : Leg P) → length (record-octets K l) ≡ record-length K
   record-length-is l =
-      let h = head-length (l .stretch) (l .degree) in
-      let a = point-length (l .start) in
-      let b = point-length (l .middle) in
-      let c = point-length (l .end) in
-      four-length (head-octets (l .stretch) (l .degree)) (point-octets K (l .start)) (point-octets K (l .middle)) (point-octets K (l .end)) ∙ omega arith
+      ap length (as-fields l)
+      ∙ simp length-append
+      (omega (arith, length-be 4 (l .stretch .from), length-be 2 (l .stretch .ticks), length-be 1 (l .stretch .cell .depth), length-be 1 (l .degree), length-be 2 (l .stretch .cell .index), length-be 2 0, point-length (l .start), point-length (l .middle), point-length (l .end)))
 
-  record-cut : (l : Leg P) (h s m e : List ℕ) → length h ≡ 12 → length s ≡ 8 * K .dimension → length m ≡ 8 * K .dimension → length e ≡ 8 * K .dimension
-      → record-octets K l ≡ parts (h ∷ s ∷ m ∷ e ∷ []) → Made-of K l h s m e
-  record-cut l h s m e lh ls lm le q =
-      let a = head-octets (l .stretch) (l .degree) in
-      let b = point-octets K (l .start) in
-      let c = point-octets K (l .middle) in
-      let d = point-octets K (l .end) in
-      let c₁ = cut a h (parts (b ∷ c ∷ d ∷ [])) (parts (s ∷ m ∷ e ∷ [])) (head-length (l .stretch) (l .degree) ∙ sym lh) q in
-      let c₂ = cut b s (parts (c ∷ d ∷ [])) (parts (m ∷ e ∷ [])) (point-length (l .start) ∙ sym ls) (c₁ .1) in
-      let c₃ = cut c m (parts (d ∷ [])) (parts (e ∷ [])) (point-length (l .middle) ∙ sym lm) (c₂ .1) in
-      let c₄ = cut d e [] [] (point-length (l .end) ∙ sym le) (c₃ .1) in
-      record { of-head = c₁ .0; of-start = c₂ .0; of-middle = c₃ .0; of-end = c₄ .0 }
+  module _ (law : Lawful K) where
+    -- ---- a leg is the data in its record
+    point-read : (p : P) → In-range K p → (at : ℕ) (rest ys : List ℕ) → drop at ys ≡ point-octets K p ++ rest → point-at K at ys ≡ p
+    point-read p h at rest ys e =
+        let pts = point-octets K p in
+        let len = point-length p in
+        law .same (point-at K at ys) p
+        (λ i lt.
+        let a : 8 * i ≤ length pts = omega arith in
+        let b : 8 ≤ length (drop (8 * i) pts) = omega (arith, length-drop (8 * i) pts) in
+        law .remade _ i lt
+        ∙ ap coordinate-of
+        (ap (take 8) (sym (drop-drop (8 * i) at ys) ∙ ap (drop (8 * i)) e ∙ drop-append-le (8 * i) pts rest a) ∙ take-append-le 8 (drop (8 * i) pts) rest b
+        ∙ coordinates-at (K .dimension) i (K .coordinate p) lt)
+        ∙ coordinate-written (K .coordinate p i) (admitted-fits K law (K .coordinate p i) (h i lt)))
 
-  record-made : (l : Leg P) (h s m e : List ℕ) → Made-of K l h s m e → record-octets K l ≡ parts (h ∷ s ∷ m ∷ e ∷ [])
-  record-made l h s m e p = rw (p .of-head, p .of-start, p .of-middle, p .of-end)
+    spare-at : (l : Leg P) → drop 10 (record-octets K l) ≡ parts (be 2 0 ∷ point-octets K (l .start) ∷ point-octets K (l .middle) ∷ point-octets K (l .end) ∷ [])
+    spare-at l =
+        let xs = record-octets K l in
+        let d₄ = rest-of 0 4 _ _ xs (as-fields l) (length-be 4 (l .stretch .from)) in
+        let d₆ = rest-of 4 2 _ _ xs d₄ (length-be 2 (l .stretch .ticks)) in
+        let d₇ = rest-of 6 1 _ _ xs d₆ (length-be 1 (l .stretch .cell .depth)) in
+        let d₈ = rest-of 7 1 _ _ xs d₇ (length-be 1 (l .degree)) in
+        rest-of 8 2 _ _ xs d₈ (length-be 2 (l .stretch .cell .index))
 
-  -- The same of octets that are split at the places of the parts.
-  pub record-split : (o a r b s c d : List ℕ) (n : ℕ) → o ≡ a ++ r → r ≡ b ++ s → s ≡ c ++ d → length a ≡ 12 → length b ≡ 8 * n → length c ≡ 8 * n → length d ≡ 8 * n → n ≡ K .dimension
-      → (l : Leg P) → Same (record-octets K l ≡ o) (Made-of K l a b c d)
-  record-split o a r b s c d n p q x la lb lc ld en l =
-      let at : 8 * n ≡ 8 * K .dimension = ap (λ (k : ℕ). 8 * k) en in
-      let f = four o a r b s c d p q x in
-      (λ e. record-cut l a b c d la (lb ∙ at) (lc ∙ at) (ld ∙ at) (e ∙ f), λ m. record-made l a b c d m ∙ sym f)
+    pub spare-read : (l : Leg P) → field 10 2 (record-octets K l) ≡ 0
+    spare-read l = field-read 10 2 0 _ (record-octets K l) (spare-at l) (omega arith)
 
-  abbrev leg : Stretch → ℕ → P → P → P → Leg P
-  leg h n s m e = record { stretch = h; degree = n; start = s; middle = m; end = e }
+    pub leg-read : (l : Leg P) → Is-leg K l → leg-of K (record-octets K l) ≡ l
+    leg-read l i =
+        let xs = record-octets K l in
+        let n = i .place in
+        let p : 2 ^ l .stretch .cell .depth ≤ 1024 = pow-le-pow-right {n = 2} (omega arith) {i = l .stretch .cell .depth} {j = 10} (n .shallow) in
+        let m : l .degree < 256 = elim (i .one-or-two) [ inl e ↦ omega arith | inr e ↦ omega arith ] in
+        let d₄ = rest-of 0 4 _ _ xs (as-fields l) (length-be 4 (l .stretch .from)) in
+        let d₆ = rest-of 4 2 _ _ xs d₄ (length-be 2 (l .stretch .ticks)) in
+        let d₇ = rest-of 6 1 _ _ xs d₆ (length-be 1 (l .stretch .cell .depth)) in
+        let d₈ = rest-of 7 1 _ _ xs d₇ (length-be 1 (l .degree)) in
+        let d₁₂ = rest-of 10 2 _ _ xs (spare-at l) (length-be 2 0) in
+        let dm = rest-of 12 w _ _ xs d₁₂ (point-length (l .start)) in
+        let at : 12 + w + w ≡ 12 + 2 * w = omega arith in
+        let de = ap (λ (k : ℕ). drop k xs) (sym at) ∙ rest-of (12 + w) w _ _ xs dm (point-length (l .middle)) in
+        let e₁ : field 0 4 xs ≡ l .stretch .from = field-read 0 4 (l .stretch .from) _ xs (as-fields l) (omega arith) in
+        let e₂ : field 4 2 xs ≡ l .stretch .ticks = field-read 4 2 (l .stretch .ticks) _ xs d₄ (omega arith) in
+        let e₃ : field 6 1 xs ≡ l .stretch .cell .depth = field-read 6 1 (l .stretch .cell .depth) _ xs d₆ (omega arith) in
+        let e₄ : field 7 1 xs ≡ l .degree = field-read 7 1 (l .degree) _ xs d₇ (omega arith) in
+        let e₅ : field 8 2 xs ≡ l .stretch .cell .index = field-read 8 2 (l .stretch .cell .index) _ xs d₈ (omega arith) in
+        let e₆ : point-at K 12 xs ≡ l .start = point-read (l .start) (i .start-in) 12 _ xs d₁₂ in
+        let e₇ : point-at K (12 + w) xs ≡ l .middle = point-read (l .middle) (i .middle-in) (12 + w) _ xs dm in
+        let e₈ : point-at K (12 + 2 * w) xs ≡ l .end = point-read (l .end) (i .end-in) (12 + 2 * w) _ xs de in
+        leg-same K (leg-of K xs) l e₁ e₂ e₃ e₄ e₅ e₆ e₇ e₈
 
-  -- A leg is told by its octets, also among data whose numbers are no more than small.
-  pub leg-told : Lawful K → (l l′ : Leg P) → Is-leg K l → Small (l′ .stretch) (l′ .degree) → In-range K (l′ .start) → In-range K (l′ .middle) → In-range K (l′ .end)
-      → Made-of K l (head-octets (l′ .stretch) (l′ .degree)) (point-octets K (l′ .start)) (point-octets K (l′ .middle)) (point-octets K (l′ .end)) → l ≡ l′
-  leg-told law l l′ i s a b c e =
-      let h = head-told (l .stretch) (l′ .stretch) (l .degree) (l′ .degree) (leg-small K l i) s (e .of-head) in
-      ap₂ (λ (x : Stretch) (n : ℕ). leg x n (l .start) (l .middle) (l .end)) (h .0) (h .1)
-      ∙ ap (λ (p : P). leg (l′ .stretch) (l′ .degree) p (l .middle) (l .end)) (point-told K law (l .start) (l′ .start) (i .start-in) a (e .of-start))
-      ∙ ap₂ (λ (p q : P). leg (l′ .stretch) (l′ .degree) (l′ .start) p q) (point-told K law (l .middle) (l′ .middle) (i .middle-in) b (e .of-middle)) (point-told K law (l .end) (l′ .end) (i .end-in) c (e .of-end))
+    -- Two legs with the same octets are the same.
+    pub record-told : (l l′ : Leg P) → Is-leg K l → Is-leg K l′ → record-octets K l ≡ record-octets K l′ → l ≡ l′
+    record-told l l′ i i′ e = sym (leg-read l i) ∙ ap (leg-of K) e ∙ leg-read l′ i′
 
-  -- Two legs with the same octets are the same.
-  pub record-told : Lawful K → (l l′ : Leg P) → Is-leg K l → Is-leg K l′ → record-octets K l ≡ record-octets K l′ → l ≡ l′
-  record-told law l l′ i i′ e =
-      leg-told law l l′ i (leg-small K l′ i′) (i′ .start-in) (i′ .middle-in) (i′ .end-in)
-      (record-cut l (head-octets (l′ .stretch) (l′ .degree)) (point-octets K (l′ .start)) (point-octets K (l′ .middle)) (point-octets K (l′ .end))
-      (head-length (l′ .stretch) (l′ .degree)) (point-length (l′ .start)) (point-length (l′ .middle)) (point-length (l′ .end)) e)
+    -- ---- the data in a record whose spare octets are zero has the octets of the record
+    coordinates-written : (xs : List ℕ) → Octets xs → (at n : ℕ) → at + 8 * n ≤ length xs → coordinates n (λ i. coordinate-of (take 8 (drop (at + 8 * i) xs))) ≡ take (8 * n) (drop at xs)
+    coordinates-written xs h at zero l = coordinates-none _
+    coordinates-written xs h at (suc n) l =
+        let f : ℕ → ℤ = (λ i. coordinate-of (take 8 (drop (at + 8 * i) xs))) in
+        let z : 8 * n + 8 ≡ 8 * suc n = omega arith in
+        rw (sym (add-one n)) (coordinates-more n f)
+        ∙ ap₂ (λ (us vs : List ℕ). us ++ vs) (coordinates-written xs h at n (omega arith))
+        (octets-written (take 8 (drop (at + 8 * n) xs)) (part-length xs (at + 8 * n) 8 (omega arith)) (part-octets xs h (at + 8 * n) 8) ∙ ap (take 8) (sym (drop-drop (8 * n) at xs)))
+        ∙ sym (take-add (8 * n) 8 (drop at xs)) ∙ ap (λ (k : ℕ). take k (drop at xs)) z
+
+    point-written : (xs : List ℕ) → Octets xs → (at : ℕ) → at + w ≤ length xs → point-octets K (point-at K at xs) ≡ take w (drop at xs)
+    point-written xs h at l = coordinates-same (K .dimension) _ _ (λ j lt. law .remade _ j lt) ∙ coordinates-written xs h at (K .dimension) l
+
+    pub leg-written : (xs : List ℕ) → Octets xs → length xs ≡ record-length K → field 10 2 xs ≡ 0 → record-octets K (leg-of K xs) ≡ xs
+    leg-written xs h len spare =
+        let at : 12 + w + w ≡ 12 + 2 * w = omega arith in
+        let f₁ = field-written xs h 0 4 (omega arith) in
+        let f₂ = field-written xs h 4 2 (omega arith) in
+        let f₃ = field-written xs h 6 1 (omega arith) in
+        let f₄ = field-written xs h 7 1 (omega arith) in
+        let f₅ = field-written xs h 8 2 (omega arith) in
+        let f₆ = ap (be 2) (sym spare) ∙ field-written xs h 10 2 (omega arith) in
+        let f₇ = point-written xs h 12 (omega arith) in
+        let f₈ = point-written xs h (12 + w) (omega arith) in
+        let f₉ = point-written xs h (12 + 2 * w) (omega arith) in
+        let o₁ = part-off xs 0 4 in
+        let o₂ = part-off xs 4 2 in
+        let o₃ = part-off xs 6 1 in
+        let o₄ = part-off xs 7 1 in
+        let o₅ = part-off xs 8 2 in
+        let o₆ = part-off xs 10 2 in
+        let o₇ = part-off xs 12 w in
+        let o₈ = part-off xs (12 + w) w ∙ ap (λ (k : ℕ). take w (drop (12 + w) xs) ++ drop k xs) at in
+        let o₉ = part-off xs (12 + 2 * w) w ∙ ap (λ (ys : List ℕ). take w (drop (12 + 2 * w) xs) ++ ys) (drop-all (12 + 2 * w + w) xs (omega arith)) in
+        as-fields (leg-of K xs) ∙ cc

@@ -3,3 +3,6 @@ pub mod Headers
 pub mod Reading
 pub mod Carried
 pub mod Values
+pub mod Writing
+pub mod Held
+pub mod Started

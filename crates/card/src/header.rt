@@ -9,7 +9,7 @@ ghost use Rattle.std.specs.declared.option.Option.the-variants.{Some as Just};
 ghost use Rattle.ordinate.specs.Octets.{be};
 ghost use Rattle.card.specs.Refusals.{First};
 ghost use Rattle.card.specs.Cards.{front, capacity as the-capacity, Counts, header-reasons};
-use crate::octets::number;
+use crate::octets::field;
 use crate::record::length_of_record;
 use crate::refusal::Refusal;
 use ordinate::kind::Ordinate;
@@ -18,7 +18,7 @@ use ordinate::kind::Ordinate;
 pub const HEADER: usize = 8;
 
 /// The only edition of the card format so far.
-const EDITION: u64 = 1;
+pub(crate) const EDITION: u32 = 1;
 
 /// No card has more records than this.
 const MOST_RECORDS: usize = 67_108_864;
@@ -30,21 +30,19 @@ pub fn capacity<P: Ordinate>(octets: usize) -> usize
     (octets.saturating_sub(HEADER) / length_of_record::<P>()).min(MOST_RECORDS)
 }
 
-/// Whether these four octets are the kind, the edition and the record length of a card of this kind.
-fn is_front<P: Ordinate>(octets: &[u8]) -> bool
-    requires { ⌜ length (now octets) ≡ 4 ⌝ }
-    ensures yes { λ q. ⌜ (T q → now (octets .entry) ≡ front kind) ⌝ }
-    ensures no { λ q. ⌜ (now (octets .entry) ≡ front kind → T q) ⌝ }
+/// Whether a card begins with the kind, the edition and the record length of a card of this kind.
+fn is_fronted<P: Ordinate>(card: &[u8]) -> bool
+    requires { ⌜ 4 ≤ length (now card) ⌝ }
+    ensures yes { λ q. ⌜ (T q → take 4 (now (card .entry)) ≡ front kind) ⌝ }
+    ensures no { λ q. ⌜ (take 4 (now (card .entry)) ≡ front kind → T q) ⌝ }
 {
-    let (code, rest) = octets.split_at(1);
-    let (edition, width) = rest.split_at(1);
-    let code = number(code);
-    let edition = number(edition);
-    let width = number(width);
-    if code != P::code() as u64 || edition != EDITION {
+    let code = field(card, 0, 1);
+    let edition = field(card, 1, 1);
+    let width = field(card, 2, 2);
+    if code != P::code() as u32 || edition != EDITION {
         return false;
     }
-    width == length_of_record::<P>() as u64
+    width as usize == length_of_record::<P>()
 }
 
 /// The number of records that the header says, which the card has room for; or the first refusal that the header gives.
@@ -54,12 +52,10 @@ pub(crate) fn read_header<P: Ordinate>(card: &[u8]) -> Result<usize, Refusal>
     if card.len() < HEADER {
         return Err(Refusal::ShortCard);
     }
-    let (front, rest) = card.split_at(4);
-    let (count, _) = rest.split_at(4);
-    if !is_front::<P>(front) {
+    if !is_fronted::<P>(card) {
         return Err(Refusal::WrongHeader);
     }
-    let count = number(count) as usize;
+    let count = field(card, 4, 4) as usize;
     if count > capacity::<P>(card.len()) {
         return Err(Refusal::CountAboveCapacity);
     }

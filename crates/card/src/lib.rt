@@ -3,6 +3,8 @@ pub mod any;
 pub mod calls;
 pub mod header;
 mod octets;
+pub mod outlet;
+mod place;
 pub mod read;
 pub mod record;
 pub mod refusal;

@@ -9,11 +9,11 @@ ghost use Rattle.leg.specs.Chains.{last-or};
 ghost use Rattle.leg.specs.declared.leg.Leg.{Leg as LegT};
 ghost use Rattle.card.specs.Refusals.{First, refusal};
 ghost use Rattle.card.specs.Records.{record-length};
-ghost use Rattle.card.specs.Cards.{Carries, Reads, Stops, reasons, record-at};
-use crate::header::HEADER;
+ghost use Rattle.card.specs.Cards.{Carries, Reads, Stops, reasons};
 use crate::header::read_header;
 use crate::octets::first_set;
-use crate::record::length_of_record;
+use crate::place::place_of;
+use crate::place::record_octets;
 use crate::record::read_record;
 use crate::refusal::Refusal;
 use leg::chain::Chain;
@@ -29,16 +29,6 @@ pub(crate) trait Visitor<P: Ordinate> {
 
     fn visit(&mut self, leg: &Leg<P>)
         ensures { λ _. ⌜ ((s : Self) (ls : List (LegT P)) → shown s ls (now (self .entry)) → shown s (ls ++ (now (leg .entry) ∷ [])) (now (self .exit))) ⌝ };
-}
-
-/// The octets of record `i`.
-fn record_octets<P: Ordinate>(card: &[u8], i: usize) -> &[u8]
-    requires { ⌜ 8 + record-length kind * (i + 1) ≤ length (now card) ⌝ }
-    ensures { λ r. ⌜ now r ≡ record-at kind (now (card .entry)) i ⌝ }
-{
-    let width = length_of_record::<P>();
-    let at = HEADER + width * i;
-    &card[at..at + width]
 }
 
 /// The chain of all the records, or the first of them that does not go on it.
@@ -80,7 +70,7 @@ pub(crate) fn walk_card<P: Ordinate, V: Visitor<P>>(
     if !chain.is_closed() {
         return Err(Refusal::BrokenChain(count));
     }
-    let (_, rest) = card.split_at(HEADER + length_of_record::<P>() * count);
+    let (_, rest) = card.split_at(place_of::<P>(card, count));
     match first_set(rest) {
         Some(_) => Err(Refusal::TrailingOctet),
         None => Ok(()),

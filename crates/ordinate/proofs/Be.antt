@@ -7,14 +7,16 @@ use native.Mathlib.Numerals.{add-one}
 use native.Mathlib.Omega.{arith}
 use lib.IntN.{ℤ, pos, negsuc, negℤ}
 use lib.Signed.{_≤ℤ_}
-use lib.ListN.{length, length-append, getD, drop}
+use lib.ListN.{length, length-append, getD, take, drop}
 use lib.Seq.{drop-cons}
 use mir.Val.{ofZ, toZ, SFits}
 use mir.Syntax.{w64}
-use Rattle.std.proofs.shelf.Bits.{div-mul-add, mod-mul-add, div-below}
-use Rattle.std.proofs.shelf.Lists.{same-from-push, drop-all}
+use Rattle.std.proofs.shelf.Bits.{div-mul-add, mod-mul-add, div-below, div-add-mod'}
+use Rattle.std.proofs.shelf.Lists.{same-from-push, drop-all, take-all, take-more}
+use Rattle.std.specs.shelf.Digits.{number}
+use Rattle.std.proofs.shelf.Digits.{number-push, number-more}
 use Rattle.std.proofs.shelf.Signed.{ints, toZ-ofZ, ofZ-toZ}
-use Rattle.ordinate.specs.Octets.{be, twos, octets-of}
+use Rattle.ordinate.specs.Octets.{be, twos, octets-of, coordinate-of}
 use Rattle.ordinate.specs.Kinds.{Between}
 
 pub be-zero : (x : ℕ) → be 0 x ≡ []
@@ -49,28 +51,40 @@ pub be-8 : (x : ℕ) → be 8 x ≡ (x / 72057594037927936 % 256) ∷ (x / 28147
 unfolding be
 be-8 x = simp div-div-eq-div-mul
 
--- Eight octets, and the number that they write.
-abbrev pub written-8 : List ℕ → ℕ
-written-8 xs =
-    getD xs 0 0 * 72057594037927936 + getD xs 1 0 * 281474976710656 + getD xs 2 0 * 1099511627776 + getD xs 3 0 * 4294967296 + getD xs 4 0 * 16777216 + getD xs 5 0 * 65536 + getD xs 6 0 * 256
-    + getD xs 7 0
+be-front : (xs : List ℕ) → ((i : ℕ) → getD xs i 0 < 256) → (i : ℕ) → i ≤ length xs → be i (number 256 (take i xs)) ≡ take i xs
+be-front xs h zero l = be-zero 0
+be-front xs h (suc i) l =
+    let lt : i < length xs = omega arith in
+    let more : number 256 (take (suc i) xs) ≡ number 256 (take i xs) * 256 + getD xs i 0 = rw (sym (add-one i)) (number-more 256 xs i lt) in
+    let front : take (suc i) xs ≡ take i xs ++ (getD xs i 0 ∷ []) = rw (sym (add-one i)) (take-more xs i 0 lt) in
+    ap (be (suc i)) more ∙ rw (sym (add-one i)) (be-push i (number 256 (take i xs)) (getD xs i 0) (h i)) ∙ ap (λ (ys : List ℕ). ys ++ (getD xs i 0 ∷ [])) (be-front xs h i (omega arith)) ∙ sym front
 
-pub written-8-small : (xs : List ℕ) → ((i : ℕ) → getD xs i 0 < 256) → written-8 xs < 18446744073709551616
-written-8-small xs h = omega (arith, h 0, h 1, h 2, h 3, h 4, h 5, h 6, h 7)
+front-small : (xs : List ℕ) → ((i : ℕ) → getD xs i 0 < 256) → (i : ℕ) → i ≤ length xs → number 256 (take i xs) < 256 ^ i
+front-small xs h zero l = omega arith
+front-small xs h (suc i) l =
+    let lt : i < length xs = omega arith in
+    let more : number 256 (take (suc i) xs) ≡ number 256 (take i xs) * 256 + getD xs i 0 = rw (sym (add-one i)) (number-more 256 xs i lt) in
+    let before = front-small xs h i (omega arith) in
+    let d = h i in
+    rw (pow-suc 256 i) (omega arith)
 
-be-of-8 : (a b c d e f g h : ℕ) → a < 256 → b < 256 → c < 256 → d < 256 → e < 256 → f < 256 → g < 256 → h < 256
-    → be 8 (a * 72057594037927936 + b * 281474976710656 + c * 1099511627776 + d * 4294967296 + e * 16777216 + f * 65536 + g * 256 + h) ≡ a ∷ b ∷ c ∷ d ∷ e ∷ f ∷ g ∷ h ∷ []
-be-of-8 a b c d e f g h ha hb hc hd he hf hg hh =
-    let n₁ = 0 * 256 + a in
-    let n₂ = n₁ * 256 + b in
-    let n₃ = n₂ * 256 + c in
-    let n₄ = n₃ * 256 + d in
-    let n₅ = n₄ * 256 + e in
-    let n₆ = n₅ * 256 + f in
-    let n₇ = n₆ * 256 + g in
-    let n : a * 72057594037927936 + b * 281474976710656 + c * 1099511627776 + d * 4294967296 + e * 16777216 + f * 65536 + g * 256 + h ≡ n₇ * 256 + h = omega arith in
-    rw (n, be-push 7 n₇ h hh, be-push 6 n₆ g hg, be-push 5 n₅ f hf, be-push 4 n₄ e he, be-push 3 n₃ d hd, be-push 2 n₂ c hc, be-push 1 n₁ b hb, be-push 0 0 a ha, be-zero 0)
+number-under : (xs : List ℕ) → ((i : ℕ) → getD xs i 0 < 256) → number 256 xs < 256 ^ length xs
+number-under xs h = subst (λ (ys : List ℕ). number 256 ys < 256 ^ length xs) (take-all (length xs) xs (omega arith)) (front-small xs h (length xs) (omega arith))
 
+-- Octets write their number.
+pub be-number : (xs : List ℕ) → ((i : ℕ) → getD xs i 0 < 256) → be (length xs) (number 256 xs) ≡ xs
+be-number xs h =
+    let step : (i : ℕ) → i ≤ length xs → be i (number 256 (take i xs)) ≡ take i xs = be-front xs h in
+    ap (λ (ys : List ℕ). be (length xs) (number 256 ys)) (sym (take-all (length xs) xs (omega arith))) ∙ step (length xs) (omega arith) ∙ take-all (length xs) xs (omega arith)
+
+pub number-be : (n x : ℕ) → x < 256 ^ n → number 256 (be n x) ≡ x
+unfolding be
+number-be zero x h = omega arith
+number-be (suc n) x h =
+    let hx : x < 256 ^ n * 256 = rw (pow-suc 256 n) at h in
+    number-push 256 (be n (x / 256)) (x % 256) ∙ ap (λ (k : ℕ). k * 256 + x % 256) (number-be n (x / 256) (div-below x 256 (256 ^ n) (omega arith) hx)) ∙ div-add-mod' x 256
+
+-- eight octets written out
 as-8 : (xs : List ℕ) → length xs ≡ 8
     → xs ≡ getD xs 0 0 ∷ getD xs 1 0 ∷ getD xs 2 0 ∷ getD xs 3 0 ∷ getD xs 4 0 ∷ getD xs 5 0 ∷ getD xs 6 0 ∷ getD xs 7 0 ∷ []
 as-8 xs l =
@@ -85,8 +99,13 @@ as-8 xs l =
     ∙ ap (λ (t : List ℕ). getD xs 6 0 ∷ t) (at 7 (omega arith)
     ∙ ap (λ (t : List ℕ). getD xs 7 0 ∷ t) (drop-all 8 xs (omega arith)))))))))
 
-pub be-written-8 : (xs : List ℕ) → length xs ≡ 8 → ((i : ℕ) → getD xs i 0 < 256) → be 8 (written-8 xs) ≡ xs
-be-written-8 xs l h = be-of-8 _ _ _ _ _ _ _ _ (h 0) (h 1) (h 2) (h 3) (h 4) (h 5) (h 6) (h 7) ∙ sym (as-8 xs l)
+eight-number : (a b c d e f g h : ℕ)
+    → number 256 (a ∷ b ∷ c ∷ d ∷ e ∷ f ∷ g ∷ h ∷ []) ≡ a * 72057594037927936 + b * 281474976710656 + c * 1099511627776 + d * 4294967296 + e * 16777216 + f * 65536 + g * 256 + h
+eight-number a b c d e f g h = omega arith
+
+pub number-8 : (xs : List ℕ) → length xs ≡ 8
+    → number 256 xs ≡ getD xs 0 0 * 72057594037927936 + getD xs 1 0 * 281474976710656 + getD xs 2 0 * 1099511627776 + getD xs 3 0 * 4294967296 + getD xs 4 0 * 16777216 + getD xs 5 0 * 65536 + getD xs 6 0 * 256 + getD xs 7 0
+number-8 xs l = ap (number 256) (as-8 xs l) ∙ eight-number (getD xs 0 0) (getD xs 1 0) (getD xs 2 0) (getD xs 3 0) (getD xs 4 0) (getD xs 5 0) (getD xs 6 0) (getD xs 7 0)
 
 -- ---- coordinates
 pub twos-is : (z : ℤ) → twos z ≡ ofZ w64 z
@@ -106,8 +125,13 @@ octets-same y z h k e =
     let back : (x : ℤ) → SFits w64 x → toZ w64 (twos x) ≡ x = (λ x f. ap (toZ w64) (twos-is x) ∙ toZ-ofZ w64 x f) in
     sym (back y h) ∙ ap (toZ w64) (be-same 8 (twos y) (twos z) (twos-small y h) (twos-small z k) e) ∙ back z k
 
--- The coordinate that the octets write is the only one that has them.
-pub octets-only : (low high : ℤ) → negℤ (pos (2 ^ 63)) ≤ℤ low → high ≤ℤ pos 9223372036854775807 → (v : ℤ) (octets : List ℕ) → SFits w64 v → octets-of v ≡ octets
-    → (z : ℤ) → Between low high z → octets-of z ≡ octets → Between low high v
-octets-only low high a b v octets f e z w ez =
-    subst (λ (x : ℤ). Between low high x) (octets-same z v (between-fits low high z a b w) f (ez ∙ sym e)) w
+pub number-small : (xs : List ℕ) → ((i : ℕ) → getD xs i 0 < 256) → (n : ℕ) → length xs ≡ n → number 256 xs < 256 ^ n
+number-small xs h n l = subst (λ (k : ℕ). number 256 xs < 256 ^ k) l (number-under xs h)
+
+-- Eight octets are those of the coordinate that they write, and a coordinate of 64 bits is the one that its octets write.
+pub octets-written : (xs : List ℕ) → length xs ≡ 8 → ((i : ℕ) → getD xs i 0 < 256) → octets-of (coordinate-of xs) ≡ xs
+octets-written xs l h =
+    ap (be 8) (twos-is (coordinate-of xs) ∙ ofZ-toZ w64 (number 256 xs) (number-small xs h 8 l)) ∙ ap (λ (k : ℕ). be k (number 256 xs)) (sym l) ∙ be-number xs h
+
+pub coordinate-written : (z : ℤ) → SFits w64 z → coordinate-of (octets-of z) ≡ z
+coordinate-written z f = ap (toZ w64) (number-be 8 (twos z) (twos-small z f) ∙ twos-is z) ∙ toZ-ofZ w64 z f

@@ -8,7 +8,7 @@ use Rattle.ordinate.specs.Flows.{flow}
 use Rattle.ordinate.specs.Boxes.{box}
 use Rattle.ordinate.specs.declared.branches.Branches.{Branches}
 use Rattle.ordinate.specs.declared.flow.Flow.{Flow}
-use Rattle.ordinate.proofs.Points.{one-rest, two-rest}
+use Rattle.ordinate.proofs.Points.{one-rest, two-rest, one-at, two-at}
 
 abbrev a-flow : ℤ → Flow
 a-flow v = record { value = v }
@@ -25,6 +25,7 @@ flow-lawful =
       range-low = (omega (arith, ints), omega (arith, ints));
       range-high = (omega (arith, ints), omega (arith, ints));
       rest = λ p i h. one-rest (p .value) i h;
+      remade = λ f i h. one-at f i h;
       same = λ p q h. ap a-flow (h 0 (omega arith));
     }
 
@@ -37,5 +38,6 @@ box-lawful =
       range-low = (omega (arith, ints), omega (arith, ints));
       range-high = (omega (arith, ints), omega (arith, ints));
       rest = λ p i h. two-rest (p .left) (p .right) i h;
+      remade = λ f i h. two-at f i h;
       same = λ p q h. ap₂ branches (h 0 (omega arith)) (h 1 (omega arith));
     }

@@ -26,6 +26,14 @@ pub two-rest : (a b : ℤ) (i : ℕ) → 2 ≤ i → two a b i ≡ pos 0
 two-rest a b zero h = absurd (omega arith)
 two-rest a b (suc i) h = one-rest b i (omega arith)
 
+pub one-at : (f : ℕ → ℤ) (i : ℕ) → i < 1 → one (f 0) i ≡ f i
+one-at f zero h = refl
+one-at f (suc i) h = absurd (omega arith)
+
+pub two-at : (f : ℕ → ℤ) (i : ℕ) → i < 2 → two (f 0) (f 1) i ≡ f i
+two-at f zero h = refl
+two-at f (suc i) h = one-at (λ j. f (suc j)) i (omega arith)
+
 pub between-as : (low high : ℤ) {y z : ℤ} → y ≡ z → Between low high y → Between low high z
 between-as low high e h = subst (λ (x : ℤ). Between low high x) e h
 
@@ -75,7 +83,7 @@ coordinates-at (suc n) i f h =
     ]
 
 module _ {P : Type 0} (K : Kind P) (law : Lawful K) where
-  admitted-fits : (z : ℤ) → Admitted K z → SFits w64 z
+  pub admitted-fits : (z : ℤ) → Admitted K z → SFits w64 z
   admitted-fits z w = between-fits (K .least) (K .greatest) z (law .range-low .0) (law .range-high .1) w
 
   -- Points that a leg may have are told by their octets.

@@ -4,4 +4,4 @@ use Rattle.ordinate.specs.Kinds.{Kind, one}
 use Rattle.ordinate.specs.declared.flow.Flow.{Flow}
 
 abbrev pub flow : Kind Flow
-flow = record { code = 1; dimension = 1; least = negℤ (pos 8589934592); greatest = pos 8589934592; coordinate = λ p. one (p .value) }
+flow = record { code = 1; dimension = 1; least = negℤ (pos 8589934592); greatest = pos 8589934592; coordinate = λ p. one (p .value); made = λ f. record { value = f 0 } }

@@ -4,7 +4,7 @@ use mathlib.Core.Path.{_≡_}
 use Prim.Native.Nat.{ℕ, zero, suc, _+_, _*_, _^_, _<_, _≤_}
 use lib.IntN.{ℤ, pos, negℤ}
 use lib.Signed.{_≤ℤ_}
-use Rattle.ordinate.specs.Octets.{octets-of}
+use Rattle.ordinate.specs.Octets.{octets-of, coordinate-of}
 
 -- A kind of ordinate, over the points P of the program.
 pub record Kind (P : Type 0) : Type 0 where
@@ -13,6 +13,7 @@ pub record Kind (P : Type 0) : Type 0 where
   pub least : ℤ  -- the least coordinate that a leg may have
   pub greatest : ℤ  -- and the greatest
   pub coordinate : P → ℕ → ℤ  -- coordinate i, from 0; past the last it is 0
+  pub made : (ℕ → ℤ) → P  -- the point with these coordinates
 
 abbrev pub Between : ℤ → ℤ → ℤ → Type 0
 Between low high z = (low ≤ℤ z) × (z ≤ℤ high)
@@ -27,6 +28,7 @@ pub record Lawful {P : Type 0} (K : Kind P) : Type 0 where
   pub range-low : Between (negℤ (pos (2 ^ 63))) (pos 0) (K .least)
   pub range-high : (pos 0 ≤ℤ K .greatest) × (K .greatest ≤ℤ pos 9223372036854775807)
   pub rest : (p : P) (i : ℕ) → K .dimension ≤ i → K .coordinate p i ≡ pos 0
+  pub remade : (f : ℕ → ℤ) (i : ℕ) → i < K .dimension → K .coordinate (K .made f) i ≡ f i
   -- a point is its coordinates
   pub same : (p q : P) → ((i : ℕ) → i < K .dimension → K .coordinate p i ≡ K .coordinate q i) → p ≡ q
 
@@ -46,16 +48,10 @@ module _ {P : Type 0} (K : Kind P) where
   abbrev pub In-range : P → Type 0
   In-range p = (i : ℕ) → i < K .dimension → Admitted (K .coordinate p i)
 
-  -- q is p with its coordinate i replaced by the admitted one that has these octets.
+  -- q is p with its coordinate i, if it has one, as these octets write it.
   pub record Set (p : P) (i : ℕ) (octets : List ℕ) (q : P) : Type 0 where
-    pub has : i < K .dimension
-    pub admitted : Admitted (K .coordinate q i)
-    pub written : octets-of (K .coordinate q i) ≡ octets
+    pub here : i < K .dimension → K .coordinate q i ≡ coordinate-of octets
     pub others : (j : ℕ) → (j ≡ i → ⊥) → K .coordinate q j ≡ K .coordinate p j
-
-  -- There is no coordinate i, or no admitted one has these octets.
-  abbrev pub Unset : ℕ → List ℕ → Type 0
-  Unset i octets = i < K .dimension → (z : ℤ) → Admitted z → octets-of z ≡ octets → ⊥
 
 -- the coordinates of points that have one or two
 abbrev pub one : ℤ → ℕ → ℤ

@@ -43,21 +43,18 @@ pub impl Ordinate for Branches as BoxOrdinate {
         }
     }
 
-    fn with(self, i: usize, octets: [u8; 8]) -> Option<Branches> {
+    fn with(self, i: usize, octets: [u8; 8]) -> Branches {
         let value = from_octets(octets);
-        if !is_between(-REACH, REACH, value) {
-            return None;
-        }
         match i {
-            0 => Some(Branches {
+            0 => Branches {
                 left: value,
                 right: self.right,
-            }),
-            1 => Some(Branches {
+            },
+            1 => Branches {
                 left: self.left,
                 right: value,
-            }),
-            _ => None,
+            },
+            _ => self,
         }
     }
 

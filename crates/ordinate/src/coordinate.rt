@@ -1,7 +1,7 @@
 //! One coordinate: its octets on a card, and a range.
 ghost use mathlib.Core.Path.{_≡_};
 ghost use lib.Dec.{T};
-ghost use Rattle.ordinate.specs.Octets.{octets-of};
+ghost use Rattle.ordinate.specs.Octets.{octets-of, coordinate-of};
 ghost use Rattle.ordinate.specs.Kinds.{Between};
 
 /// Two's complement, the most significant octet first.
@@ -13,7 +13,7 @@ pub fn to_octets(value: i64) -> [u8; 8]
 
 /// The coordinate that has these octets.
 pub fn from_octets(octets: [u8; 8]) -> i64
-    ensures { λ r. ⌜ octets-of r ≡ octets ⌝ }
+    ensures { λ r. ⌜ r ≡ coordinate-of octets ⌝ }
 {
     i64::from_be_bytes(octets)
 }

@@ -42,12 +42,13 @@ pub impl Ordinate for Flow as FlowOrdinate {
         }
     }
 
-    fn with(self, i: usize, octets: [u8; 8]) -> Option<Flow> {
-        let value = from_octets(octets);
-        if !is_between(-REACH, REACH, value) {
-            return None;
+    fn with(self, i: usize, octets: [u8; 8]) -> Flow {
+        if i == 0 {
+            return Flow {
+                value: from_octets(octets),
+            };
         }
-        if i == 0 { Some(Flow { value }) } else { None }
+        self
     }
 
     fn in_range(self) -> bool {

@@ -3,9 +3,8 @@ ghost use mathlib.Core.Path.{_≡_};
 ghost use Prim.Native.Nat.{ℕ, _<_};
 ghost use lib.IntN.{pos};
 ghost use lib.Dec.{T};
-ghost use Rattle.std.specs.Options.{Cases as BySome};
 ghost use Rattle.ordinate.specs.Octets.{octets-of};
-ghost use Rattle.ordinate.specs.Kinds.{Kind, Lawful, In-range, Set, Unset};
+ghost use Rattle.ordinate.specs.Kinds.{Kind, Lawful, In-range, Set};
 
 /// A point whose coordinates are whole numbers. Nothing here adds points or measures between them.
 pub trait Ordinate: Copy {
@@ -29,9 +28,9 @@ pub trait Ordinate: Copy {
     fn octets(self, i: usize) -> [u8; 8]
         ensures { λ r. ⌜ r ≡ octets-of (kind .coordinate self i) ⌝ };
 
-    /// This point with coordinate `i` as these octets write it; `None` where there is no such coordinate, or the range does not admit it.
-    fn with(self, i: usize, octets: [u8; 8]) -> Option<Self>
-        ensures { λ r. ⌜ BySome r (Unset kind i octets) (λ q. Set kind self i octets q) ⌝ };
+    /// This point with coordinate `i` as these octets write it; the same point where it has no such coordinate.
+    fn with(self, i: usize, octets: [u8; 8]) -> Self
+        ensures { λ r. ⌜ Set kind self i octets r ⌝ };
 
     /// Whether a leg may have this point.
     fn in_range(self) -> bool

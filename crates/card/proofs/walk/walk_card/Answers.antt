@@ -47,12 +47,16 @@ returns-then-not-is-closed g c =
     (λ o. c .if-not-is-closed .ensures tt .no (standing, subst (λ (x : Option (Leg _)). Closed-after x) (sym (r .3)) o)) in
     record { answer = a; legs = carried-unrefused K xs law _ a }
 
+pub place-of-requires : need.place-of-requires
+place-of-requires g c κs =
+    let h = c .in-Continue-count .ensures tt in
+    capacity-room (g .P·Ordinate .kind) (c .in-Continue-count .count) (length (c .args .card .now)) (h .long) (h .fits)
+
 pub split-at-requires : need.split-at-requires
 split-at-requires g c κs =
-    let K = g .P·Ordinate .kind in
     let h = c .in-Continue-count .ensures tt in
-    let n = c .in-Continue-count .count in
-    subst (λ (w : ℕ). 8 + w * n ≤ length (c .args .card .now)) (sym (c .length-of-record .ensures)) (capacity-room K n (length (c .args .card .now)) (h .long) (h .fits))
+    subst (λ (at : ℕ). at ≤ length (c .args .card .now)) (sym (c .place-of .ensures))
+    (capacity-room (g .P·Ordinate .kind) (c .in-Continue-count .count) (length (c .args .card .now)) (h .long) (h .fits))
 
 pub returns-in-Some : need.returns-in-Some
 returns-in-Some g c =
@@ -62,10 +66,10 @@ returns-in-Some g c =
     let n = c .in-Continue-count .count in
     let r = c .in-Continue-chain .ensures tt in
     let k = c .in-Some .field-0 in
-    let m = 8 + c .length-of-record .result * n in
+    let m = c .place-of .result in
     let closed = subst (λ (x : Option (Leg _)). Closed-after x) (r .3) (c .if-not-is-closed .ensures tt .yes tt .1) in
     let a = answer-tail K xs law n (c .in-Continue-count .ensures tt) (r .0) (r .1) (r .2) closed (m + k)
-    (subst (λ (w : ℕ). 8 + w * n ≤ m + k) (c .length-of-record .ensures) (omega arith)) (λ z. c .in-Some .ensures tt (c .split-at .ensures .places .2 k 0 ∙ z)) in
+    (subst (λ (at : ℕ). at ≤ m + k) (c .place-of .ensures) (omega arith)) (λ z. c .in-Some .ensures tt (c .split-at .ensures .places .2 k 0 ∙ z)) in
     record { answer = a; legs = carried-unrefused K xs law _ a }
 
 pub returns-in-None : need.returns-in-None
@@ -75,10 +79,10 @@ returns-in-None g c =
     let xs = c .args .card .now in
     let n = c .in-Continue-count .count in
     let r = c .in-Continue-chain .ensures tt in
-    let m = 8 + c .length-of-record .result * n in
+    let m = c .place-of .result in
     let zeros : (k : ℕ) → 8 + record-length K * n ≤ k → getD xs k 0 ≡ 0 =
     (λ k lo.
-    let lo′ : m ≤ k = subst (λ (w : ℕ). 8 + w * n ≤ k) (sym (c .length-of-record .ensures)) lo in
+    let lo′ : m ≤ k = subst (λ (at : ℕ). at ≤ k) (sym (c .place-of .ensures)) lo in
     let j : m + (k - m) ≡ k = omega arith in
     ap (λ (i : ℕ). getD xs i 0) (sym j) ∙ sym (c .split-at .ensures .places .2 (k - m) 0) ∙ c .in-None .ensures tt (k - m)) in
     let found : Found K xs n (r .0) =
