@@ -6,8 +6,9 @@ from dataclasses import replace
 from fractions import Fraction
 from pathlib import Path
 
-from card import BOX, FLOW, Leg, Point, gate, write
+from card import BOX, FLOW, Leg, Point, write
 from drafts import Cell, Span, draft, legs_at, places
+from gate_text import gate
 
 EXAMPLES = Path(__file__).resolve().parents[2] / "examples"
 GRAINS_OF_A_LITRE = 65_536

@@ -1,5 +1,5 @@
-"""Holds the second reader to itself, to what the test cards are meant to give,
-and to the examples of docs/."""
+"""Holds the second reader and the second outlets to themselves, to what the test
+cards are meant to give, and to the examples of docs/."""
 
 from __future__ import annotations
 
@@ -14,16 +14,17 @@ from card import (
     check_call,
     coordinate_octets,
     covers,
-    gate,
     leg_value,
     read,
-    refusal_text,
     value_call,
     write,
 )
-from cards import all_samples
+from cards import DEFAULT_SEED, all_samples
 from drafts import Sample
+from gate_text import gate, refusal_text
 from make_examples import TWO_HALVES
+from outlet_check import outlet_claims, script_fault, writing_fault
+from trials import Script, all_scripts
 
 # From card.md.
 TWO_HALVES_OCTETS = bytes.fromhex(
@@ -87,6 +88,7 @@ def doc_claims() -> Iterator[tuple[str, bool]]:
         yield f"legs.md: octets of {coordinate}", same
     falling = Leg(0, 2, 0, 0, 1, (0,), (0,), (-1,))
     yield "legs.md: -1/2 becomes -1", leg_value(falling, 1) == (-1,)
+    yield from outlet_claims()
 
 
 def legs_meet(legs: Sequence[Leg]) -> bool:
@@ -109,33 +111,36 @@ def sample_fault(sample: Sample) -> str | None:
         return "is not what writing its legs gives"
     if not legs_meet(answer.legs):
         return "has legs that meet and tell different values"
-    return None
+    return writing_fault(answer, sample.octets)
 
 
-def faults(samples: Sequence[Sample]) -> list[str]:
+def faults(samples: Sequence[Sample], scripts: Sequence[Script]) -> list[str]:
     found = [f"docs: not so: {claim}" for claim, holds in doc_claims() if not holds]
     for sample in samples:
         fault = sample_fault(sample)
         if fault is not None:
             found.append(f"{sample.name} {fault}: {sample.octets.hex()}")
+    found += filter(None, map(script_fault, scripts))
     return found
 
 
-def summary(samples: Sequence[Sample]) -> str:
+def summary(samples: Sequence[Sample], scripts: Sequence[Script]) -> str:
     meant = sum(sample.meant is not None for sample in samples)
     return (
         f"second reader: {len(samples)} test cards, {meant} of them with a known answer:"
-        " all as meant, and as docs/ says"
+        " all as meant, and as docs/ says\n"
+        f"second outlets: {len(scripts)} scripts: they hold the lists that they should,"
+        " and accepted cards are written again octet for octet"
     )
 
 
 def main() -> int:
-    samples = all_samples()
-    found = faults(samples)
+    samples, scripts = all_samples(), all_scripts(DEFAULT_SEED)
+    found = faults(samples, scripts)
     for fault in found[:5]:
         print(fault)
     if not found:
-        print(summary(samples))
+        print(summary(samples, scripts))
     return 1 if found else 0
 
 

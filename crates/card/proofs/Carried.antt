@@ -113,7 +113,7 @@ module _ {P : Type 0} (K : Kind P) where
           octets = sym (take-append-drop 8 xs) ∙ ap₂ (λ (p q : List ℕ). p ++ q) head (sym (take-append-drop (w * length ls) (drop 8 xs)) ∙ ap₂ (λ (p q : List ℕ). p ++ q) body tail);
         }
 
-    found : (ls : List (Leg P)) → Carries K xs ls → Found (length ls) ls
+    pub found : (ls : List (Leg P)) → Carries K xs ls → Found (length ls) ls
     found ls h =
         let w = record-length K in
         let n = length ls in

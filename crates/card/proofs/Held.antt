@@ -166,7 +166,7 @@ module _ {P : Type 0} (K : Kind P) where
         pasted-twice xs (record-octets K l) (be 4 (n + 1)) (w * n) w len (length-be 4 (n + 1)) (omega arith)
         ∙ ap (λ (k : ℕ). take 4 xs ++ (be 4 (n + 1) ++ (take (w * n) (drop 8 xs) ++ (record-octets K l ++ drop (8 + w * n + k) xs)))) (sym len)
 
-    put-legs : legs-on K ys ≡ legs-on K xs ++ (l ∷ [])
+    pub put-legs : legs-on K ys ≡ legs-on K xs ++ (l ∷ [])
     put-legs =
         let here : record-at K ys n ≡ record-octets K l =
         ap (take w) (past-body xs n (record-octets K l) (n + 1) ys put-room put-small put-form) ∙ take-at (record-octets K l) _ w (record-length-is K l) in
@@ -196,6 +196,9 @@ module _ {P : Type 0} (K : Kind P) where
         carded-from xs n r (n + 1) ys put-room put-small put-form (ls ++ (l ∷ [])) (sym more) (card-front xs ls e)
         (ap₂ (λ (us vs : List ℕ). us ++ (r ++ vs)) body rest ∙ sym (append-assoc (records K ls) r _)
         ∙ ap (λ (us : List ℕ). us ++ replicate (length xs - (8 + w * length (ls ++ (l ∷ [])))) 0) (ap (λ (us : List ℕ). records K ls ++ us) (sym (append-nil r)) ∙ sym (records-append ls (l ∷ []))))
+
+    pub put-length : length ys ≡ length xs
+    put-length = rewritten-length xs n (record-octets K l) (n + 1) ys put-room put-small put-form
 
     pub put-carded : Carded K xs → Carded K ys
     put-carded h =

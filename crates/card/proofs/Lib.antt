@@ -6,3 +6,4 @@ pub mod Values
 pub mod Writing
 pub mod Held
 pub mod Started
+pub mod Listing

@@ -18,9 +18,9 @@ use Rattle.ordinate.specs.Kinds.{Kind}
 use Rattle.ordinate.proofs.Be.{length-be, number-be}
 use Rattle.leg.specs.declared.leg.Leg.{Leg}
 use Rattle.card.specs.Records.{record-length}
-use Rattle.card.specs.Cards.{front, card-of, capacity, count-of, record-at}
-use Rattle.card.specs.Outlet.{listed, first-legs, on-card, Carded, started}
-use Rattle.card.proofs.Carried.{front-length}
+use Rattle.card.specs.Cards.{front, records, card-of, capacity, count-of, record-at}
+use Rattle.card.specs.Outlet.{listed, first-legs, on-card, Carded, written, started}
+use Rattle.card.proofs.Carried.{front-length, records-length}
 use Rattle.card.proofs.Headers.{capacity-room}
 use Rattle.card.proofs.Writing.{pasted}
 
@@ -52,16 +52,26 @@ module _ {P : Type 0} (K : Kind P) where
       ∙ ap (λ (us : List ℕ). (a ++ b) ++ (c ++ us)) (drop-drop 2 2 zs ∙ tail)
       ∙ simp (append-assoc, append-nil)
 
-  pub started-long : (n : ℕ) → 8 ≤ n → started K n ≡ card-of K [] n
-  started-long n h = rw (le-ltb n 8 h)
+  pub written-long : (ls : List (Leg P)) (n : ℕ) → 8 ≤ n → written K ls n ≡ card-of K ls n
+  written-long ls n h = rw (le-ltb n 8 h)
 
-  pub started-short : (n : ℕ) → n < 8 → started K n ≡ replicate n 0
-  started-short n h = rw (lt-ltb n 8 h)
+  pub written-short : (ls : List (Leg P)) (n : ℕ) → n < 8 → written K ls n ≡ replicate n 0
+  written-short ls n h = rw (lt-ltb n 8 h)
 
-  card-length : (n : ℕ) → 8 ≤ n → length (card-of K [] n) ≡ n
-  card-length n h =
-      let zeros : length (replicate {A = ℕ} (n - (8 + record-length K * 0)) 0) ≡ n - (8 + record-length K * 0) = length-replicate (n - (8 + record-length K * 0)) 0 in
-      length-append (front K ++ be 4 0) _ ∙ omega (arith, length-append (front K) (be 4 0), front-length K, length-be 4 0, zeros)
+  pub card-length : (ls : List (Leg P)) (n : ℕ) → 8 + record-length K * length ls ≤ n → length (card-of K ls n) ≡ n
+  card-length ls n h =
+      let m : ℕ = n - (8 + record-length K * length ls) in
+      let zeros : length (replicate {A = ℕ} m 0) ≡ m = length-replicate m 0 in
+      let head : length (front K ++ be 4 (length ls)) ≡ 8 = length-append (front K) _ ∙ omega (arith, front-length K, length-be 4 (length ls)) in
+      let body : length (records K ls ++ replicate m 0) ≡ record-length K * length ls + m = length-append (records K ls) _ ∙ omega (arith, records-length K ls, zeros) in
+      length-append (front K ++ be 4 (length ls)) _ ∙ omega (arith, head, body)
+
+  pub started-length : (n : ℕ) → length (started K n) ≡ n
+  started-length n =
+      elim (cases-lt n 8) [
+        | inl short ↦ ap length (written-short [] n short) ∙ length-replicate n 0
+        | inr long ↦ ap length (written-long [] n long) ∙ card-length [] n (omega arith)
+      ]
 
   pub no-capacity : (n : ℕ) → n < 8 → capacity K n ≡ 0
   no-capacity n h =
@@ -89,13 +99,13 @@ module _ {P : Type 0} (K : Kind P) where
   begun n xs e =
       elim (cases-lt n 8) [
         | inl short ↦
-            let z = e ∙ started-short n short in
-            let len : length xs ≡ n = ap length z ∙ length-replicate n 0 in
+            let z = e ∙ written-short [] n short in
+            let len : length xs ≡ n = ap length e ∙ started-length n in
             let cap : capacity K (length xs) ≡ 0 = ap (capacity K) len ∙ no-capacity n short in
             begun-with n xs len (omega (arith, cap)) (λ h. absurd (omega arith)) (λ h. z ∙ ap (λ (k : ℕ). replicate k 0) (sym len))
         | inr long ↦
-            let z = e ∙ started-long n long in
-            let len : length xs ≡ n = ap length z ∙ card-length n long in
+            let z = e ∙ written-long [] n long in
+            let len : length xs ≡ n = ap length e ∙ started-length n in
             let four = ap (drop 4) (z ∙ append-assoc (front K) (be 4 0) _) ∙ drop-at (front K) _ 4 (front-length K) in
             let none : count-of K xs ≡ 0 = ap (number 256) (ap (take 4) four ∙ take-at (be 4 0) _ 4 (length-be 4 0)) ∙ number-be 4 0 (omega arith) in
             begun-with n xs len (omega (arith, none)) (λ h. z ∙ ap (card-of K []) (sym len)) (λ h. absurd (omega arith))

@@ -4,12 +4,16 @@ use mathlib.Core.List.{List, [], _∷_, _++_}
 use mathlib.Core.Path.{_≡_}
 use Prim.Native.Nat.{ℕ, zero, suc, min, _+_, _-_, _*_, _≤_, _<_}
 use lib.Dec.{ltb}
-use lib.ListN.{length, replicate}
+use lib.ListN.{length, take, drop, replicate}
+use Rattle.std.specs.declared.result.Result.the-variants.{Err}
 use lib.Seq.{paste}
 use Rattle.ordinate.specs.Octets.{be}
 use Rattle.ordinate.specs.Kinds.{Kind}
-use Rattle.leg.specs.Outlets.{Contents}
+use Rattle.leg.specs.Legs.{Is-leg}
+use Rattle.leg.specs.Chains.{Each}
+use Rattle.leg.specs.Outlets.{Contents, Put}
 use Rattle.leg.specs.declared.leg.Leg.{Leg}
+use Rattle.leg.specs.declared.put_refusal.PutRefusal.{PutRefusal}
 use Rattle.card.specs.Records.{leg-of, record-octets, record-length}
 use Rattle.card.specs.Cards.{card-of, capacity, count-of, record-at}
 
@@ -43,9 +47,27 @@ module _ {P : Type 0} (K : Kind P) where
   abbrev pub without-records : List ℕ → ℕ → ℕ → List ℕ
   without-records xs n m = paste (paste xs (8 + record-length K * n) (replicate (record-length K * (m - n)) 0) (record-length K * (m - n))) 4 (be 4 n) 4
 
-  -- A started card: its header, and zeros; fewer than eight octets are zeros alone.
+  -- What n octets are when the legs are written on them; fewer than eight are zeros alone.
+  abbrev pub written : List (Leg P) → ℕ → List ℕ
+  written ls n = cond (ltb n 8) (replicate n 0) (card-of K ls n)
+
+  -- A started card: its header, and zeros.
   abbrev pub started : ℕ → List ℕ
-  started n = cond (ltb n 8) (replicate n 0) (card-of K [] n)
+  started n = written [] n
 
   abbrev pub kept-octets : ℕ → List ℕ → List ℕ
   kept-octets n xs = cond (ltb n (listed xs)) (without-records xs n (listed xs)) xs
+
+  -- ---- a whole list of legs, put one after another
+
+  -- Each of the legs can be put, for there is room for them all.
+  pub record Fit (room : ℕ) (ls : List (Leg P)) : Type 0 where
+    pub legs : Each (Is-leg K) ls
+    pub fits : length ls ≤ room
+
+  -- The legs before leg i can be put, and that one after them is refused.
+  pub record Refuses (room : ℕ) (ls : List (Leg P)) (i : ℕ) (why : PutRefusal) : Type 0 where
+    pub before : Fit room (take i ls)
+    pub leg : Leg P
+    pub here : ls ≡ take i ls ++ (leg ∷ drop (i + 1) ls)
+    pub refused : Put K (record { legs = take i ls; capacity = room }) leg (Err why) (record { legs = take i ls; capacity = room })

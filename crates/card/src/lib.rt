@@ -10,3 +10,4 @@ pub mod record;
 pub mod refusal;
 pub mod value;
 mod walk;
+pub mod write;

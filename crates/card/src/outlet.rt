@@ -40,7 +40,7 @@ fn listed<P: Ordinate>(octets: &[u8]) -> usize
 }
 
 /// Writes record `n`, and a count of `n` + 1.
-fn add_record<P: Ordinate>(octets: &mut [u8], n: usize, leg: &Leg<P>)
+pub(crate) fn add_record<P: Ordinate>(octets: &mut [u8], n: usize, leg: &Leg<P>)
     requires { ⌜ 8 + record-length kind * (n + 1) ≤ length (now octets) ⌝ }
     ensures { λ _. ⌜ now (octets .exit) ≡ with-record kind (now (octets .entry)) n (now (leg .entry)) ⌝ }
 {
@@ -69,7 +69,7 @@ pub struct CardOutlet<'a, P: Drop> {
 }
 
 /// Makes the octets a card with no legs; fewer than eight become zeros alone.
-fn begin<P: Ordinate>(octets: &mut [u8])
+pub(crate) fn begin<P: Ordinate>(octets: &mut [u8])
     ensures { λ _. ⌜ now (octets .exit) ≡ started kind (length (now (octets .entry))) ⌝ }
 {
     clear(octets);
@@ -93,6 +93,13 @@ impl<'a, P: Ordinate> CardOutlet<'a, P> {
             octets,
             kind: PhantomData,
         }
+    }
+
+    /// All the octets, as they stand.
+    pub fn octets(&self) -> &[u8]
+        ensures { λ r. ⌜ now r ≡ now (now (self .entry) .octets) ⌝ }
+    {
+        &*self.octets
     }
 }
 
