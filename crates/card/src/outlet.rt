@@ -159,15 +159,30 @@ fn keep_on<P: Ordinate>(octets: &mut [u8], n: usize)
 pub impl<'a, P: Ordinate> Outlet<P> for CardOutlet<'a, P> as CardOnOctets {
     ghost contents = { λ o. on-card (P·Ordinate .kind) (now (o .octets)) };
 
-    fn count(&mut self) -> usize {
+    fn count(&mut self) -> usize
+        ensures same { λ _. ⌜ on-card (P·Ordinate .kind) (now (now (self .exit) .octets)) ≡ on-card (P·Ordinate .kind) (now (now (self .entry) .octets)) ⌝ }
+        ensures value { λ r. ⌜ r ≡ length (on-card (P·Ordinate .kind) (now (now (self .entry) .octets)) .legs) ⌝ }
+        ensures home { λ _. ⌜ name (now (self .exit) .octets) ≡ name (now (self .entry) .octets) ⌝ }
+        ensures octets { λ _. ⌜ now (now (self .exit) .octets) ≡ now (now (self .entry) .octets) ⌝ }
+    {
         count_on::<P>(self.octets)
     }
 
-    fn free(&mut self) -> usize {
+    fn free(&mut self) -> usize
+        ensures same { λ _. ⌜ on-card (P·Ordinate .kind) (now (now (self .exit) .octets)) ≡ on-card (P·Ordinate .kind) (now (now (self .entry) .octets)) ⌝ }
+        ensures value { λ r. ⌜ r ≡ room (on-card (P·Ordinate .kind) (now (now (self .entry) .octets))) ⌝ }
+        ensures home { λ _. ⌜ name (now (self .exit) .octets) ≡ name (now (self .entry) .octets) ⌝ }
+        ensures octets { λ _. ⌜ now (now (self .exit) .octets) ≡ now (now (self .entry) .octets) ⌝ }
+    {
         free_on::<P>(self.octets)
     }
 
-    fn get(&mut self, i: usize) -> Option<Leg<P>> {
+    fn get(&mut self, i: usize) -> Option<Leg<P>>
+        ensures same { λ _. ⌜ on-card (P·Ordinate .kind) (now (now (self .exit) .octets)) ≡ on-card (P·Ordinate .kind) (now (now (self .entry) .octets)) ⌝ }
+        ensures finds { λ r. ⌜ BySome r (length (on-card (P·Ordinate .kind) (now (now (self .entry) .octets)) .legs) ≤ i) (λ l. (i < length (on-card (P·Ordinate .kind) (now (now (self .entry) .octets)) .legs)) × (l ≡ getD (on-card (P·Ordinate .kind) (now (now (self .entry) .octets)) .legs) i l)) ⌝ }
+        ensures home { λ _. ⌜ name (now (self .exit) .octets) ≡ name (now (self .entry) .octets) ⌝ }
+        ensures octets { λ _. ⌜ now (now (self .exit) .octets) ≡ now (now (self .entry) .octets) ⌝ }
+    {
         get_on::<P>(self.octets, i)
     }
 
