@@ -24,7 +24,7 @@ def compare_gate_run(
     expected = gate(octets, ticks)
     from_input = not arguments or arguments[0] == "-"
     out, status, error = run(program, arguments, octets if from_input else b"")
-    if (out, status) != expected:
+    if (out, status) != expected or error:
         what = f"gate {' '.join(arguments)}"
         found.tell(what, octets, str(expected), f"{(out, status)}, on standard error {error!r}")
 
@@ -99,9 +99,9 @@ def compare_long(program: str, samples: Sequence[Sample], found: Differences) ->
 
 
 def expect_wrong_use(program: str, arguments: Sequence[str], found: Differences) -> None:
-    """Status 1 and a message. What is on standard output is not said."""
+    """Status 1 and a message of one line. What is on standard output is not said."""
     out, status, error = run(program, arguments)
-    if status != 1 or not error:
+    if status != 1 or not error.startswith("gate: ") or error.count("\n") != 1:
         came = f"status {status}, {out!r}, on standard error {error!r}"
         found.tell(f"gate {arguments}", None, "status 1 and a message on standard error", came)
 

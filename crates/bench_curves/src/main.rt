@@ -17,6 +17,7 @@ use ordinate::flow::Flow;
 use std::alloc::Global;
 use std::env;
 use std::env::Args;
+use std::process::ExitCode;
 use std::time::{Duration, Instant};
 
 /// How many curves are drawn where no number is given.
@@ -80,12 +81,11 @@ fn run(rt: &HostRuntime) -> anyhow::Result<()> {
     Ok(())
 }
 
-fn main(rt: HostRuntime) -> anyhow::Result<()> {
-    match run(&rt) {
-        Ok(()) => Ok(()),
-        Err(error) => {
-            eprintln!(rt; "bench_curves: {error}")?;
-            Err(error)
-        }
+fn main(rt: HostRuntime) -> ExitCode {
+    if let Err(error) = run(&rt) {
+        // Where this cannot be printed, the status alone tells it.
+        let _ = eprintln!(rt; "bench_curves: {error}");
+        return ExitCode::FAILURE;
     }
+    ExitCode::SUCCESS
 }

@@ -18,6 +18,7 @@ use outlet::table::RecordTable;
 use script::input::Input;
 use script::shown::Shown;
 use script::start::{Kind, Sort, Start, used_octets};
+use std::process::ExitCode;
 
 fn next_line<P: Distance>(rt: &HostRuntime, input: &mut Input) -> anyhow::Result<Option<Line<P>>> {
     match input.next_text()? {
@@ -103,13 +104,23 @@ fn run(rt: &HostRuntime, input: &mut Input) -> anyhow::Result<()> {
     Ok(())
 }
 
-fn main(rt: HostRuntime) -> anyhow::Result<()> {
-    let mut input = Input::new(&rt)?;
-    match run(&rt, &mut input) {
+/// Runs the script on standard input, and says at which line it went wrong.
+fn run_script(rt: &HostRuntime) -> anyhow::Result<()> {
+    let mut input = Input::new(rt)?;
+    match run(rt, &mut input) {
         Ok(()) => Ok(()),
         Err(error) => {
-            eprintln!(rt; "drafts: line {}: {error}", input.number())?;
-            Err(error)
+            let line = input.number();
+            Err(anyhow!(format!(in rt.alloc(); "line {line}: {error}")?))
         }
     }
+}
+
+fn main(rt: HostRuntime) -> ExitCode {
+    if let Err(error) = run_script(&rt) {
+        // Where this cannot be printed, the status alone tells it.
+        let _ = eprintln!(rt; "drafts: {error}");
+        return ExitCode::FAILURE;
+    }
+    ExitCode::SUCCESS
 }

@@ -23,6 +23,7 @@ use outlet::outlet::Outlet;
 use outlet::table::RecordTable;
 use std::env;
 use std::fmt::Display;
+use std::process::ExitCode;
 
 const USAGE: &str = "usage: fit KIND REDUCTION TOLERANCE DEPTH [COORDINATE...]
 Prints the legs that a curve takes: KIND is flow or box, REDUCTION is chord or
@@ -135,14 +136,15 @@ fn run(rt: &HostRuntime) -> anyhow::Result<bool> {
     }
 }
 
-fn main(rt: HostRuntime) -> anyhow::Result<()> {
+fn main(rt: HostRuntime) -> ExitCode {
     match run(&rt) {
-        Ok(true) => Ok(()),
-        // the refusal is printed already; the error is for the exit status
-        Ok(false) => Err(anyhow!("refused")),
+        Ok(true) => ExitCode::SUCCESS,
+        // the refusal is printed already
+        Ok(false) => ExitCode::FAILURE,
         Err(error) => {
-            eprintln!(rt; "fit: {error}")?;
-            Err(error)
+            // Where this cannot be printed, the status alone tells it.
+            let _ = eprintln!(rt; "fit: {error}");
+            ExitCode::FAILURE
         }
     }
 }

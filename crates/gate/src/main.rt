@@ -12,6 +12,7 @@ use anyhow::anyhow;
 use card::any::{AnyLegs, read_any};
 use card::refusal::ReadError;
 use std::io::Read;
+use std::process::ExitCode;
 use std::{env, fs};
 
 const USAGE: &str = "usage: gate [CARD [TICK...]]
@@ -75,14 +76,15 @@ fn run(rt: &HostRuntime) -> anyhow::Result<bool> {
     }
 }
 
-fn main(rt: HostRuntime) -> anyhow::Result<()> {
+fn main(rt: HostRuntime) -> ExitCode {
     match run(&rt) {
-        Ok(true) => Ok(()),
-        // the refusal is printed already; the error is for the exit status
-        Ok(false) => Err(anyhow!("refused")),
+        Ok(true) => ExitCode::SUCCESS,
+        // the refusal is printed already
+        Ok(false) => ExitCode::FAILURE,
         Err(error) => {
-            eprintln!(rt; "gate: {error}")?;
-            Err(error)
+            // Where this cannot be printed, the status alone tells it.
+            let _ = eprintln!(rt; "gate: {error}");
+            ExitCode::FAILURE
         }
     }
 }

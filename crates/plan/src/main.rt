@@ -7,6 +7,7 @@ use plan_text::lines::{check_length, next_line};
 use plan_text::print::{LINE_ROOM, print_refused};
 use std::env;
 use std::io::{Read, Write};
+use std::process::ExitCode;
 
 const USAGE: &str = "usage: plan
 Reads a plan text on standard input, and prints the refusals of its lines and, for
@@ -85,10 +86,11 @@ fn run(rt: &HostRuntime) -> anyhow::Result<()> {
     plan(rt, &text)
 }
 
-fn main(rt: HostRuntime) -> anyhow::Result<()> {
+fn main(rt: HostRuntime) -> ExitCode {
     if let Err(error) = run(&rt) {
-        eprintln!(rt; "plan: {error}")?;
-        return Err(error);
+        // Where this cannot be printed, the status alone tells it.
+        let _ = eprintln!(rt; "plan: {error}");
+        return ExitCode::FAILURE;
     }
-    Ok(())
+    ExitCode::SUCCESS
 }

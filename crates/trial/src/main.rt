@@ -6,6 +6,7 @@ mod lines;
 
 use crate::line::{Call, Line};
 use crate::lines::{first_line, next_line};
+use anyhow::anyhow;
 use card_writer::card_outlet::CardOutlet;
 use card_writer::write::write;
 use leg::leg::Leg;
@@ -18,6 +19,7 @@ use script::input::Input;
 use script::shown::{Shown, hex_text, leg_text};
 use script::start::{Kind, Sort, Start, used_octets};
 use std::alloc::{AllocError, Global};
+use std::process::ExitCode;
 
 fn legs_of<P: Ordinate, O: Outlet<P>>(
     heap: Global,
@@ -136,13 +138,23 @@ fn run(rt: &HostRuntime, input: &mut Input) -> anyhow::Result<()> {
     Ok(())
 }
 
-fn main(rt: HostRuntime) -> anyhow::Result<()> {
-    let mut input = Input::new(&rt)?;
-    match run(&rt, &mut input) {
+/// Runs the script on standard input, and says at which line it went wrong.
+fn run_script(rt: &HostRuntime) -> anyhow::Result<()> {
+    let mut input = Input::new(rt)?;
+    match run(rt, &mut input) {
         Ok(()) => Ok(()),
         Err(error) => {
-            eprintln!(rt; "trial: line {}: {error}", input.number())?;
-            Err(error)
+            let line = input.number();
+            Err(anyhow!(format!(in rt.alloc(); "line {line}: {error}")?))
         }
     }
+}
+
+fn main(rt: HostRuntime) -> ExitCode {
+    if let Err(error) = run_script(&rt) {
+        // Where this cannot be printed, the status alone tells it.
+        let _ = eprintln!(rt; "trial: {error}");
+        return ExitCode::FAILURE;
+    }
+    ExitCode::SUCCESS
 }
