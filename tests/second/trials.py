@@ -108,11 +108,10 @@ def state_of(outlet: Outlet) -> str:
 
 @dataclass(frozen=True)
 class Exchange:
-    """A line, and the two that must be printed for it."""
+    """A line, and those that must be printed for it: the state of the outlet is the last."""
 
     line: str
-    answer: str
-    state: str
+    printed: tuple[str, ...]
 
 
 class Script:
@@ -121,12 +120,14 @@ class Script:
 
     def __init__(self, word: str, kind: Kind, size: int) -> None:
         self.outlet = started(word, kind, size)
-        start = Exchange(f"{word} {kind.name} {size}", "started", state_of(self.outlet))
-        self.exchanges = [start]
+        self.exchanges: list[Exchange] = []
+        self.add(f"{word} {kind.name} {size}", "started")
+
+    def add(self, line: str, answer: str) -> None:
+        self.exchanges.append(Exchange(line, (answer, state_of(self.outlet))))
 
     def say(self, line: str) -> None:
-        answer = answer_of(self.outlet, line)
-        self.exchanges.append(Exchange(line, answer, state_of(self.outlet)))
+        self.add(line, answer_of(self.outlet, line))
 
 
 # --- Data to put

@@ -9,14 +9,14 @@ octets written over, numbers of a leg below 0, and calls that the turn does not 
 from __future__ import annotations
 
 from collections.abc import Iterator, Sequence
-from dataclasses import dataclass, replace
+from dataclasses import replace
 from itertools import product
 from random import Random
 
 from card import HEADER_LENGTH, KINDS, Leg, Point, Refusal
 from curves import LIMIT, REDUCTIONS
 from outlets import Outlet
-from trials import leg_text, put_line, state_of
+from trials import Exchange, leg_text, put_line, state_of
 from turn_samples import (
     Answer,
     Call,
@@ -88,14 +88,6 @@ def is_data(leg: Leg) -> bool:
     """Whether a line can give the leg's numbers, which have 32 bits and no sign."""
     numbers = (leg.from_, leg.ticks, leg.depth, leg.index, leg.degree)
     return all(0 <= number < 2**32 for number in numbers)
-
-
-@dataclass(frozen=True)
-class Exchange:
-    """A line, and those that must be printed for it: the state of the outlet is the last."""
-
-    line: str
-    printed: tuple[str, ...]
 
 
 class Script:

@@ -1,5 +1,5 @@
 //! The numbers that the curves are drawn from.
-ghost use Rattle.std.specs.Prelude.{◌<◌, ◌≤◌};
+ghost use Rattle.std.specs.Prelude.{◌<◌, max};
 
 const SEED: u64 = 0x9e37_79b9_7f4a_7c15;
 
@@ -25,10 +25,10 @@ impl Generator {
         state.wrapping_mul(MULTIPLIER)
     }
 
+    /// A number below `k`; 0 where there is none.
     pub fn below(&mut self, k: u64) -> u64
-        requires { 1 ≤ k }
-        ensures { result < k }
+        ensures { result < max k 1 }
     {
-        (self.step() >> 31) % k
+        (self.step() >> 31) % k.max(1)
     }
 }

@@ -64,7 +64,7 @@ module _ {P : Type 0} (K : Kind P) where
       record { carded = b.carded; holds = ap (λ c. c.legs) b.empty; long = long }
 
   module _ (law : Lawful K) (n : ℕ) (ls : List (Leg P)) (i : ℕ) (l : Leg P) (xs : List ℕ) (below : i < length ls) (at : l ≡ get_or ls i l) (fit : Fit K (capacity K n) ls) (so : SoFar n ls i xs) where
-    pub leg_so_far : IsLeg K l
+    leg_so_far : IsLeg K l
     leg_so_far = subst (IsLeg K) (sym at) (each_at ls i l fit.legs below)
 
     pub room_so_far : i < capacity K (length xs)
