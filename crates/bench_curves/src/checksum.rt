@@ -21,6 +21,7 @@ impl Checksum {
     }
 
     fn take_in_point<P: Distance>(&mut self, point: P) {
+        // by index, as a point is no slice of its coordinates
         for i in 0..P::dimension() {
             self.take_in(point.coordinate(i));
         }

@@ -3,27 +3,19 @@ ghost use Rattle.std.specs.Prelude.{◌^◌, ◌≤◌};
 
 use crate::random::Generator;
 use crate::totals::Totals;
-use anyhow::anyhow;
+use anyhow::{Context, bail};
 use bezier::chord::Chord;
 use bezier::matching::Matching;
 use bezier::reduction::Reduction;
 use curve::accuracy::Accuracy;
 use curve::legs::put;
+use curve::limits::{MOST_LEGS, MOST_POINTS, MOST_WORK};
 use curve::refusal::CurveRefusal;
 use curve::span::Span;
 use distance::measure::Distance;
 use outlet::outlet::Outlet;
 use outlet::table::RecordTable;
 use std::alloc::{AllocError, Global};
-
-/// A curve of degree 8 has no more.
-const MOST_POINTS: usize = 9;
-
-/// A row for each depth from 0 to 10.
-const MOST_WORK: usize = 99;
-
-/// A curve that may be halved ten times comes to no more legs.
-const MOST_LEGS: usize = 1024;
 
 /// A degree that the reduction takes.
 fn draw_degree<P: Distance, R: Reduction<P>>(random: &mut Generator) -> usize
@@ -58,6 +50,7 @@ fn draw_point<P: Distance>(random: &mut Generator, size: u32) -> P
 {
     let size = size as u64;
     let mut point = P::zero();
+    // by index, as a point is no slice of its coordinates
     for i in 0..P::dimension() {
         let coordinate = random.below(2 * size + 1) as i64 - size as i64;
         point = point.with_coordinate(i, coordinate);
@@ -107,9 +100,9 @@ impl<P: Distance + Drop> Desk<P> {
         let degree = draw_degree::<P, R>(random);
         let depth = random.below(11);
         let size = draw_size(random);
-        let Ok(accuracy) = draw_accuracy::<P>(random, depth, size) else {
-            return Err(anyhow!("a drawn accuracy is refused"));
-        };
+        let accuracy = draw_accuracy::<P>(random, depth, size)
+            .ok()
+            .context("a drawn accuracy is refused")?;
         self.draw_points(random, degree, size)?;
         self.table.keep(0);
         match put::<P, R, RecordTable<P>>(
@@ -121,7 +114,7 @@ impl<P: Distance + Drop> Desk<P> {
         ) {
             Ok(tally) => totals.add(tally, self.table.records()),
             Err(CurveRefusal::TooBent) => totals.add_too_bent(),
-            Err(_) => return Err(anyhow!("a drawn curve is refused, and not as too bent")),
+            Err(_) => bail!("a drawn curve is refused, and not as too bent"),
         }
         Ok(())
     }

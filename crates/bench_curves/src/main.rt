@@ -10,13 +10,13 @@ mod totals;
 use crate::desk::Desk;
 use crate::random::Generator;
 use crate::totals::Totals;
-use anyhow::anyhow;
+use anyhow::{Context, bail};
 use curve::span::Span;
 use ordinate::branches::Branches;
 use ordinate::flow::Flow;
+use program::exit_code;
 use std::alloc::Global;
-use std::env;
-use std::env::Args;
+use std::env::{self, Args};
 use std::process::ExitCode;
 use std::time::{Duration, Instant};
 
@@ -24,26 +24,21 @@ use std::time::{Duration, Instant};
 const FEW: u64 = 2_000;
 
 /// The number of curves that is asked for. The first argument, which is the program's own name, is passed over.
-fn number_asked(heap: Global, args: Args) -> anyhow::Result<Option<u64>> {
-    let mut args = args;
+fn number_asked(mut args: Args) -> anyhow::Result<Option<u64>> {
     args.next();
     let Some(word) = args.next() else {
         return Ok(None);
     };
     if args.next().is_some() {
-        return Err(anyhow!("usage: bench_curves [NUMBER-OF-CURVES]"));
+        bail!("usage: bench_curves [NUMBER-OF-CURVES]");
     }
-    match word.as_str().parse::<u64>() {
-        Ok(number) => Ok(Some(number)),
-        Err(_) => Err(anyhow!(format!(in heap; "'{word}' is no number of curves")?)),
-    }
+    let number = word.as_str().parse::<u64>().ok();
+    Ok(Some(number.context(format_args!("'{word}' is no number of curves"))?))
 }
 
 /// Draws and lays so many curves.
 fn lay_curves(heap: Global, number: u64) -> anyhow::Result<Totals> {
-    let Some(span) = Span::new(0, 1) else {
-        return Err(anyhow!("a span of one tick cannot be had"));
-    };
+    let span = Span::new(0, 1).context("a span of one tick cannot be had")?;
     let mut flows = Desk::<Flow>::new(heap, span)?;
     let mut boxes = Desk::<Branches>::new(heap, span)?;
     let mut random = Generator::seeded();
@@ -64,7 +59,7 @@ fn per_second(number: u64, time: Duration) -> u64 {
 }
 
 fn run(rt: &HostRuntime) -> anyhow::Result<()> {
-    let asked = number_asked(rt.alloc(), env::args(rt)?)?;
+    let asked = number_asked(env::args(rt)?)?;
     let number = asked.unwrap_or(FEW);
     let begun = Instant::now(rt)?;
     let totals = lay_curves(rt.alloc(), number)?;
@@ -82,10 +77,5 @@ fn run(rt: &HostRuntime) -> anyhow::Result<()> {
 }
 
 fn main(rt: HostRuntime) -> ExitCode {
-    if let Err(error) = run(&rt) {
-        // Where this cannot be printed, the status alone tells it.
-        let _ = eprintln!(rt; "bench_curves: {error}");
-        return ExitCode::FAILURE;
-    }
-    ExitCode::SUCCESS
+    exit_code(&rt, "bench_curves", run(&rt).map(|()| true))
 }

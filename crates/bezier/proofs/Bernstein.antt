@@ -12,7 +12,8 @@ use Rattle.bezier.proofs.Casteljau.{mix, tail, cast, once}
 abbrev weight : ℕ → ℕ → ℕ → ℕ → ℕ
 weight a b n j = choose n j * a ^ (n - j) * b ^ j
 
-choose_over : (n j : ℕ) → n < j → choose n j ≡ 0
+-- past the end of its row every binomial is 0
+pub choose_over : (n j : ℕ) → n < j → choose n j ≡ 0
 choose_over zero zero h = absurd (omega arith)
 choose_over zero (suc j) h = refl
 choose_over (suc n) zero h = absurd (omega arith)

@@ -18,9 +18,6 @@ use Rattle.bezier.specs.declared.shares.Shares.{Shares}
 use Rattle.bezier.proofs.Weights.{word}
 
 -- ---- every
-and_true : (a b : Bool) → a ≡ true → b ≡ true → true ≡ (a && b)
-and_true a b e f = rw (e, f) refl
-
 and_left : (a b : Bool) → false ≡ a → false ≡ (a && b)
 and_left a b e = rw (sym e) refl
 
@@ -30,7 +27,7 @@ and_right false b e = refl
 
 pub every_all : (n : ℕ) (f : ℕ → Bool) → ((k : ℕ) → k ≤ n → f k ≡ true) → true ≡ every n f
 every_all zero f h = sym (h 0 (omega arith))
-every_all (suc n) f h = and_true (every n f) (f (suc n)) (sym (every_all n f (λ k l. h k (omega arith)))) (h (suc n) (omega arith))
+every_all (suc n) f h = rw (sym (every_all n f (λ k l. h k (omega arith))), h (suc n) (omega arith)) refl
 
 pub every_not : (n : ℕ) (f : ℕ → Bool) (j : ℕ) → j ≤ n → f j ≡ false → false ≡ every n f
 every_not zero f j l e = let z : 0 ≡ j = omega arith in sym (ap f z ∙ e)

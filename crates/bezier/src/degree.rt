@@ -9,11 +9,11 @@ pub enum Degree {
     Two,
 }
 
-impl Degree {
-    pub fn number(self) -> u32
-        ensures { result ≡ the_number self }
-    {
-        match self {
+impl From<Degree> for u32 {
+    ghost from_gives = { λ degree n. n ≡ the_number degree };
+
+    fn from(degree: Degree) -> u32 {
+        match degree {
             Degree::One => 1,
             Degree::Two => 2,
         }

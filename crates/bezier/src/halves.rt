@@ -12,6 +12,7 @@ fn next_round<P: Distance>(work: &mut [P], m: usize)
     ensures halvings { (k : ℕ) (d : P) → k < m → slice_index_or work.new k d ≡ halfway P.Ordinate.kind (slice_index_or work.old k d) (slice_index_or work.old (k + 1) d) }
     ensures rest { (k : ℕ) (d : P) → m ≤ k → slice_index_or work.new k d ≡ slice_index_or work.old k d }
 {
+    // By index, as each point is written while the next is still to be read.
     for i in 0..m {
         let a = work[i];
         let b = work[i + 1];
@@ -26,6 +27,7 @@ fn rounds<P: Distance>(work: &mut [P], n: usize)
     ensures left { take (n + 1) (drop (n + 1) work.new) ≡ left_half P.Ordinate.kind (take (n + 1) work.old) }
     ensures rest { drop (2 * (n + 1)) work.new ≡ drop (2 * (n + 1)) work.old }
 {
+    // `k` counts the rounds: it is no place of a list that could be gone through.
     for k in 0..n {
         let first = work[0];
         work[n + 1 + k] = first;

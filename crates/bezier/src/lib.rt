@@ -3,6 +3,7 @@
 
 pub mod binomial;
 pub mod chord;
+mod curve;
 pub mod degree;
 pub mod halves;
 pub mod matching;

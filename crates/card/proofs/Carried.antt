@@ -11,7 +11,7 @@ use Rattle.leg.specs.Legs.{IsLeg}
 use Rattle.leg.specs.Chains.{Each, RunsOn, Joined, Closed, ClosedAfter, last_or, stretches, stretch_of}
 use Rattle.leg.specs.declared.leg.Leg.{Leg}
 use Rattle.leg.proofs.Seams.{last_stretch}
-use Rattle.card.specs.Refusals.{First}
+use Rattle.leg.specs.Reasons.{First}
 use Rattle.card.specs.Records.{record_octets, record_length}
 use Rattle.card.specs.Cards.{front, header, records, Reads, Counts, Carries, reasons}
 use Rattle.card.specs.declared.refusal.Refusal.{Refusal}
@@ -109,7 +109,7 @@ module _ {P : Type 0} (K : Kind P) where
     found ls h =
         let w = record_length K in
         let n = length ls in
-        let zs = replicate (length xs - (8 + w * n)) 0 in
+        let zs : List ℕ = replicate (length xs - (8 + w * n)) 0 in
         let room = h.room in
         let limit = h.limit in
         let e₁ : xs ≡ front K ++ (be 4 n ++ (records K ls ++ zs)) = h.octets ∙ append_assoc (front K) (be 4 n) (records K ls ++ zs) in

@@ -1,10 +1,11 @@
 -- A record's octets tell its leg, and the data in a record its octets.
-use Rattle.std.proofs.Common.{◌≡◌, ℕ, zero, suc, ◌+◌, ◌*◌, ◌^◌, ◌<◌, ◌≤◌, List, [], ◌∷◌, ◌++◌, length, get_or, take, drop, ℤ, sym, ap, ◌∙◌, subst, ap₂, inl, inr, lt_of_lt_of_le, add-one, arith, length-append, length-drop, length-take, take-add}
+use Rattle.std.proofs.Common.{◌≡◌, ℕ, zero, suc, ◌+◌, ◌-◌, ◌*◌, ◌^◌, ◌<◌, ◌≤◌, List, [], ◌∷◌, ◌++◌, length, get_or, take, drop, ℤ, sym, ap, ◌∙◌, subst, ap₂, inl, inr, add-one, arith, length-append, length-drop, length-take, take-add}
 use Rattle.std.proofs.Math.Nat.{pow-le-pow_right}
 use Rattle.std.proofs.Math.Seq.{take-append-le, drop-append-le}
 use Rattle.std.specs.Int.Digits.{number_from_digits}
+use Rattle.std.specs.Simd.{first_chunks}
 use Rattle.std.proofs.lemmas.Bool.{cases_lt}
-use Rattle.std.proofs.lemmas.List.{get_or_past, take_at, drop_at, append_assoc, drop-drop, drop_all, take-append-drop, get_or-take, get_or-drop}
+use Rattle.std.proofs.lemmas.List.{get_or_past, take_at, drop_at, append_assoc, drop-drop, drop-take, take-take, drop_all, take-append-drop, get_or-take, get_or-drop}
 use Rattle.ordinate.specs.Octets.{be, coordinate_of}
 use Rattle.ordinate.specs.Kinds.{Kind, Lawful, InRange, coordinates, point_octets}
 use Rattle.ordinate.specs.Laws.Octets.{length_be, be_number, number_be, octets_written, coordinate_written}
@@ -12,13 +13,6 @@ use Rattle.ordinate.specs.Laws.Points.{admitted_fits, coordinates_none, coordina
 use Rattle.leg.specs.Legs.{IsLeg}
 use Rattle.leg.specs.declared.leg.Leg.{Leg}
 use Rattle.card.specs.Records.{parts, field, point_at, leg_of, record_octets, record_length}
-
--- ---- numbers
-pub octet_room : (i n x : ℕ) → x < 256 ^ i → i < n → n ≤ 8 → x < 72057594037927936
-octet_room i n x h k l = lt_of_lt_of_le h (pow-le-pow_right {n = 256} (omega arith) {i = i} {j = 7} (omega arith))
-
-pub octets_below : (i n x : ℕ) → x < 256 ^ i → i ≤ n → x < 256 ^ n
-octets_below i n x h k = lt_of_lt_of_le h (pow-le-pow_right {n = 256} (omega arith) {i = i} {j = n} k)
 
 abbrev pub Octets : List ℕ → Type 0
 Octets xs = (i : ℕ) → get_or xs i 0 < 256
@@ -36,6 +30,24 @@ part_length xs at n h = omega (arith, length-take n (drop at xs), length-drop at
 
 pub part_off : (xs : List ℕ) (at n : ℕ) → drop at xs ≡ take n (drop at xs) ++ drop (at + n) xs
 part_off xs at n = sym (take-append-drop n (drop at xs)) ∙ ap (λ (ys : List ℕ). take n (drop at xs) ++ ys) (drop-drop n at xs)
+
+-- a part of the front of some octets is that part of them all
+pub part_of_front : (at n m : ℕ) (xs : List ℕ) → at + n ≤ m → take n (drop at (take m xs)) ≡ take n (drop at xs)
+part_of_front at n m xs h =
+    let z : m ≡ at + (m - at) = omega arith in
+    ap (λ (k : ℕ). take n (drop at (take k xs))) z ∙ ap (take n) (drop-take at (m - at) xs) ∙ take-take n (m - at) (drop at xs) (omega arith)
+
+-- one of the chunks that octets are cut into
+chunk_at : (n k i : ℕ) (xs d : List ℕ) → i < k → get_or (first_chunks n k xs) i d ≡ take n (drop (n * i) xs)
+chunk_at n zero i xs d h = absurd (omega arith)
+chunk_at n (suc k) zero xs d h = let z : n * 0 ≡ 0 = omega arith in rw z
+chunk_at n (suc k) (suc i) xs d h =
+    let z : n + n * i ≡ n * suc i = omega arith in
+    chunk_at n k i (drop n xs) d (omega arith) ∙ ap (take n) (drop-drop (n * i) n xs ∙ ap (λ (m : ℕ). drop m xs) z)
+
+pub chunk_of_part : (n k i at m : ℕ) (xs d : List ℕ) → i < k → n * i + n ≤ m → get_or (first_chunks n k (take m (drop at xs))) i d ≡ take n (drop (at + n * i) xs)
+chunk_of_part n k i at m xs d h l =
+    chunk_at n k i (take m (drop at xs)) d h ∙ part_of_front (n * i) n m (drop at xs) l ∙ ap (take n) (drop-drop (n * i) at xs)
 
 -- what stands at the front, and the rest
 pub rest_of : (at n : ℕ) (x rest ys : List ℕ) → drop at ys ≡ x ++ rest → length x ≡ n → drop (at + n) ys ≡ rest
@@ -62,7 +74,7 @@ module _ {P : Type 0} (K : Kind P) where
   abbrev w : ℕ
   w = 8 * K.dimension
 
-  point_length : (p : P) → length (point_octets K p) ≡ w
+  pub point_length : (p : P) → length (point_octets K p) ≡ w
   point_length p = length_coordinates K.dimension (K.coordinate p)
 
   -- a record as its nine fields

@@ -4,3 +4,4 @@ pub mod Reading
 pub mod Carried
 pub mod Values
 pub mod Writing
+pub mod Keeping

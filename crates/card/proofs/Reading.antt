@@ -5,38 +5,13 @@ use Rattle.ordinate.specs.Kinds.{Kind, Lawful}
 use Rattle.leg.specs.Legs.{IsLeg}
 use Rattle.leg.specs.Chains.{Follows, Standing, ClosedAfter, last_or}
 use Rattle.leg.specs.declared.leg.Leg.{Leg}
-use Rattle.card.specs.Refusals.{Reason, First}
+use Rattle.leg.specs.Reasons.{First}
 use Rattle.card.specs.Records.{record_octets, record_length}
 use Rattle.card.specs.Cards.{capacity, count_of, record_at, Reads, Unread, Unchained, Stops, Open, Counts, header_reasons, record_reasons, reasons}
 use Rattle.card.specs.declared.refusal.Refusal.{Refusal}
 use Rattle.card.specs.declared.refusal.Refusal.TheVariants.{NoLeg, BrokenChain, TrailingOctet}
+use Rattle.leg.proofs.Reasoned.{AllSingle, because_single, first_later, one_answer}
 use Rattle.card.proofs.Codec.{record_told}
-
--- ---- first reasons
-
--- A refusal among the first reasons is one among all.
-pub first_more : (rs ss : List Reason) (f : Refusal) → First rs (Some f) → First (rs ++ ss) (Some f)
-first_more [] ss f e = let z : ◌≡◌ {A = ℕ} 0 1 = cc in absurd (omega arith)
-first_more (r ∷ rs) ss f (inl h) = inl h
-first_more (r ∷ rs) ss f (inr h) = inr (h.0, first_more rs ss f h.1)
-
--- Where none of the first reasons holds, the others decide.
-pub first_after : (rs ss : List Reason) (a : Option Refusal) → First rs None → First ss a → First (rs ++ ss) a
-first_after [] ss a n f = f
-first_after (r ∷ rs) ss a (inl h) f = let e = h.2 in let z : ◌≡◌ {A = ℕ} 0 1 = cc in absurd (omega arith)
-first_after (r ∷ rs) ss a (inr h) f = inr (h.0, first_after rs ss a h.1 f)
-
--- Reasons that give one refusal each have one first.
-abbrev pub Single : List Reason → Type 0
-Single [] = Unit {0}
-Single (r ∷ rs) = ((f g : Refusal) → r f → r g → f ≡ g) × Single rs
-
-first_one : (rs : List Reason) (a b : Option Refusal) → Single rs → First rs a → First rs b → a ≡ b
-first_one [] a b u x y = x ∙ sym y
-first_one (r ∷ rs) a b u (inl x) (inl y) = x.2 ∙ ap Some (u.0 x.0 y.0 x.1 y.1) ∙ sym y.2
-first_one (r ∷ rs) a b u (inl x) (inr y) = absurd (y.0 x.0 x.1)
-first_one (r ∷ rs) a b u (inr x) (inl y) = absurd (x.0 y.0 y.1)
-first_one (r ∷ rs) a b u (inr x) (inr y) = first_one rs a b u.1 x.1 y.1
 
 module _ {P : Type 0} (K : Kind P) (xs : List ℕ) where
   -- ---- the records
@@ -104,7 +79,7 @@ module _ {P : Type 0} (K : Kind P) (xs : List ℕ) where
       inr (λ f x. let y = x.0 in omega arith, inr (λ f x. x.0 h.fronted, inr (λ f x. let y = x.0 in omega arith, refl)))
 
   past_header : (n : ℕ) (a : Option Refusal) → Counts K xs n → First (record_reasons K xs) a → First (reasons K xs) a
-  past_header n a h f = first_after (header_reasons K xs) (record_reasons K xs) a (counted n h) f
+  past_header n a h f = first_later (header_reasons K xs) (record_reasons K xs) a (counted n h) f
 
   pub answer_stops : (n : ℕ) → Counts K xs n → (f : Refusal) → Stops K xs n f → First (reasons K xs) (Some f)
   answer_stops n h f s = past_header n (Some f) h (inl (f, subst (λ (m : ℕ). Stops K xs m f) h.count s, refl))
@@ -147,10 +122,10 @@ module _ {P : Type 0} (K : Kind P) (xs : List ℕ) where
         ]
       ]
 
-  reasons_single : Lawful K → Single (reasons K xs)
+  reasons_single : Lawful K → AllSingle (reasons K xs)
   reasons_single law =
-      let one : (A : Type 0) (k f g : Refusal) → A × (f ≡ k) → A × (g ≡ k) → f ≡ g = (λ A k f g s t. s.1 ∙ sym t.1) in
+      let one = because_single in
       (one _ _, (one _ _, (one _ _, (stops_one law (count_of K xs), (one _ _, (one _ _, tt))))))
 
   pub reasons_one : Lawful K → (f g : Option Refusal) → First (reasons K xs) f → First (reasons K xs) g → f ≡ g
-  reasons_one law f g = first_one (reasons K xs) f g (reasons_single law)
+  reasons_one law = one_answer (reasons K xs) (reasons_single law)

@@ -1,45 +1,41 @@
 -- Writing numbers and records from the front on.
-use Rattle.std.proofs.Common.{◌≡◌, ℕ, zero, suc, ◌+◌, ◌-◌, ◌/◌, ◌%◌, ◌<◌, ◌≤◌, List, [], ◌∷◌, ◌++◌, length, take, drop, set, sym, ap, ◌∙◌, ap₂, add-one, arith, take_all}
-use Rattle.std.proofs.Math.Seq.{paste}
-use Rattle.std.proofs.lemmas.List.{append_assoc, append-nil, drop-set, take_at, drop_at, drop-drop, length-append, length-take}
+use Rattle.std.proofs.Common.{◌≡◌, ℕ, zero, suc, ◌+◌, ◌/◌, ◌%◌, List, [], ◌∷◌, ◌++◌, length, drop, sym, refl, ap, ◌∙◌, ap₂, arith}
+use Rattle.std.proofs.Math.Seq.{paste, drop-append-le}
+use Rattle.std.proofs.lemmas.List.Edits.{paste_all, paste_none, paste-paste}
+use Rattle.std.proofs.lemmas.List.{append-nil, drop_all, length-append}
 use Rattle.ordinate.specs.Octets.{be}
-use Rattle.ordinate.specs.Laws.Octets.{be_suc, length_be}
-use Rattle.card.specs.Records.{parts}
+use Rattle.ordinate.specs.Laws.Octets.{be_suc, be_zero, length_be}
 
--- ---- a number, from its last octet on
-pub be_put : (i left : ℕ) (xs : List ℕ) → 0 < i → i ≤ length xs → be (i - 1) (left / 256) ++ drop (i - 1) (set xs (i - 1) (left % 256)) ≡ be i left ++ drop i xs
-be_put zero left xs h k = absurd (omega arith)
-be_put (suc j) left xs h k =
-    let e : suc j - 1 ≡ j = omega arith in
-    let lt : j < length xs = omega arith in
-    rw (e, drop-set xs j (left % 256) lt, be_suc j left, add-one, append_assoc)
+-- ---- numbers
+-- The lowest octets of a number are the last of more of them.
+pub drop_be : (m n x : ℕ) → drop m (be (m + n) x) ≡ be n x
+drop_be m zero x = drop_all m (be (m + 0) x) (omega (arith, length_be (m + 0) x)) ∙ sym (be_zero x)
+drop_be m (suc n) x =
+    let z : m + suc n ≡ suc (m + n) = omega arith in
+    ap (λ (k : ℕ). drop m (be k x)) z ∙ ap (drop m) (be_suc (m + n) x)
+    ∙ drop-append-le m (be (m + n) (x / 256)) (x % 256 ∷ []) (omega (arith, length_be (m + n) (x / 256)))
+    ∙ ap (λ (ys : List ℕ). ys ++ (x % 256 ∷ [])) (drop_be m n (x / 256))
+    ∙ sym (be_suc n x)
 
-pub be_done : (i left : ℕ) (xs r : List ℕ) → i ≡ 0 → be i left ++ drop i xs ≡ r → xs ≡ r
-unfolding be
-be_done i left xs r e h = rw e at h
+-- ---- parts written one after another
 
--- ---- parts, one after another
-pub six_up : (a a₂ a₃ a₄ a₅ a₆ x y z u v w : List ℕ) → a ≡ x → a₂ ≡ a ++ y → a₃ ≡ a₂ ++ z → a₄ ≡ a₃ ++ u → a₅ ≡ a₄ ++ v → a₆ ≡ a₅ ++ w → a₆ ≡ parts (x ∷ y ∷ z ∷ u ∷ v ∷ w ∷ [])
-six_up a a₂ a₃ a₄ a₅ a₆ x y z u v w p q r s t o =
-    o ∙ ap (λ (k : List ℕ). k ++ w) (t ∙ ap (λ (k : List ℕ). k ++ v) (s ∙ ap (λ (k : List ℕ). k ++ u) (r ∙ ap (λ (k : List ℕ). k ++ z) (q ∙ ap (λ (k : List ℕ). k ++ y) p)))) ∙ simp (append_assoc, append-nil)
+-- xs is d with s, which has n octets, written over its front.
+pub record Begun (d s : List ℕ) (n : ℕ) (xs : List ℕ) : Type 0 where
+  pub long : length s ≡ n
+  pub written : xs ≡ paste d 0 s n
 
-pub four_up : (a b c d h x y z : List ℕ) → a ≡ h → b ≡ a ++ x → c ≡ b ++ y → d ≡ c ++ z → d ≡ parts (h ∷ x ∷ y ∷ z ∷ [])
-four_up a b c d h x y z p q r s =
-    s ∙ ap (λ (k : List ℕ). k ++ z) (r ∙ ap (λ (k : List ℕ). k ++ y) (q ∙ ap (λ (k : List ℕ). k ++ x) p)) ∙ simp (append_assoc, append-nil)
+pub begun_none : (d : List ℕ) → Begun d [] 0 d
+begun_none d = record { long = refl; written = paste_none d 0 [] }
 
--- ---- writing over a part
-pub pasted : (xs : List ℕ) (at n : ℕ) (ys : List ℕ) → length ys ≡ n → paste xs at ys n ≡ take at xs ++ (ys ++ drop (at + n) xs)
-pasted xs at n ys l = ap (λ (zs : List ℕ). take at xs ++ zs ++ drop (at + n) xs) (take_all n ys (omega arith)) ∙ append_assoc (take at xs) ys (drop (at + n) xs)
+pub begun_more : (d s : List ℕ) (n : ℕ) (xs t : List ℕ) (m at : ℕ) (ys : List ℕ) → Begun d s n xs → length t ≡ m → at ≡ n → ys ≡ paste xs at t m → Begun d (s ++ t) (n + m) ys
+begun_more d s n xs t m at ys b l a e =
+    record {
+      long = length-append s t ∙ omega (arith, b.long, l);
+      written = e ∙ ap₂ (λ (us : List ℕ) (k : ℕ). paste us k t m) b.written (a ∙ omega arith) ∙ paste-paste d 0 s t n m (sym b.long) (sym l) (omega arith);
+    }
 
--- what then stands in front
-pub pasted_front : (xs zs : List ℕ) (at n v : ℕ) → at + n ≤ length xs → zs ≡ paste xs at (be n v) n → take (at + n) zs ≡ take at xs ++ be n v
-pasted_front xs zs at n v h e =
-    let t : length (take at xs) ≡ at = omega (arith, length-take at xs) in
-    let l = length_be n v in
-    ap (take (at + n)) (e ∙ pasted xs at n (be n v) l ∙ sym (append_assoc (take at xs) (be n v) (drop (at + n) xs)))
-    ∙ take_at (take at xs ++ be n v) (drop (at + n) xs) (at + n) (length-append (take at xs) (be n v) ∙ omega arith)
+pub begun_front : (d s : List ℕ) (n : ℕ) (xs : List ℕ) → Begun d s n xs → xs ≡ s ++ drop n d
+begun_front d s n xs b = b.written ∙ paste_all d 0 s n (sym b.long) ∙ ap (λ (k : ℕ). s ++ drop k d) (omega arith)
 
--- writing right after what was written before
-pub pasted_next : (xs as' ys zs : List ℕ) (at n : ℕ) → xs ≡ as' ++ zs → length as' ≡ at → length ys ≡ n → paste xs at ys n ≡ as' ++ (ys ++ drop n zs)
-pasted_next xs as' ys zs at n e la ly =
-    pasted xs at n ys ly ∙ ap₂ (λ (us vs : List ℕ). us ++ (ys ++ vs)) (ap (take at) e ∙ take_at as' zs at la) (sym (drop-drop n at xs) ∙ ap (drop n) (ap (drop at) e ∙ drop_at as' zs at la))
+pub begun_whole : (d s : List ℕ) (n : ℕ) (xs : List ℕ) → Begun d s n xs → length d ≡ n → xs ≡ s
+begun_whole d s n xs b l = begun_front d s n xs b ∙ ap (λ (us : List ℕ). s ++ us) (drop_all n d (omega arith)) ∙ append-nil s

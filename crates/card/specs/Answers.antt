@@ -1,11 +1,12 @@
 -- What the reading calls answer.
-use Rattle.std.specs.Prelude.{◌≡◌, ℕ, Bool, false, List, [], ◌∷◌, ◌++◌, Some, None, Ok, Err, vec_items, Option, Result, ◌≢◌, slice_index, slice_index_or}
+use Rattle.std.specs.Prelude.{◌≡◌, ℕ, List, [], ◌∷◌, ◌++◌, Some, None, Ok, Err, vec_items, Option, Result, ◌≢◌, slice_index, slice_index_or}
+use Rattle.std.specs.Global.{Vec}
 use Rattle.ordinate.specs.Boxes.{box}
 use Rattle.ordinate.specs.Flows.{flow}
 use Rattle.ordinate.specs.declared.flow.Flow.{Flow}
 use Rattle.leg.specs.Values.{Past}
 use Rattle.leg.specs.declared.leg.Leg.{Leg}
-use Rattle.card.specs.Refusals.{Reason, because, First}
+use Rattle.leg.specs.Reasons.{Reason, because, First}
 use Rattle.card.specs.Cards.{Carries, reasons}
 use Rattle.card.specs.declared.any.AnyLegs.{AnyLegs}
 use Rattle.card.specs.declared.any.AnyLegs.TheVariants.{OfFlow, OfBox}
@@ -21,7 +22,7 @@ read_refusal (Err (Refused f)) = Some f
 read_refusal (Err NoMemory) = None
 
 -- Why a flow card tells no value at the tick: it is refused, or the tick is past its last leg.
-abbrev pub value_reasons : List ℕ → ℕ → List Reason
+abbrev pub value_reasons : List ℕ → ℕ → List (Reason Refusal)
 value_reasons xs a = reasons flow xs ++ (because ((ls : List (Leg Flow)) × Carries flow xs ls × Past ls a) PastLastLeg ∷ [])
 
 -- ---- cards of any kind
@@ -35,8 +36,10 @@ abbrev pub AnyCarries : List ℕ → AnyLegs → Type 0
 AnyCarries xs (OfFlow v) = Carries flow xs (vec_items v)
 AnyCarries xs (OfBox v) = Carries box xs (vec_items v)
 
--- ---- the visitor that keeps legs
+-- ---- keeping legs
 
--- What was kept of legs shown one after another: all of them, unless memory ran short.
-abbrev pub CollectedFrom : {A : Type 0} → List A → Bool → List A → List A → Bool → Type 0
-CollectedFrom before short shown after short' = short ≡ false → short' ≡ false → after ≡ before ++ shown
+-- One leg more is kept after those kept before, unless memory ran short, now or before.
+abbrev pub Kept : {P E : Type 0} → Result (Vec (Leg P)) E → Leg P → Result (Vec (Leg P)) E → Type 0
+Kept (Ok before) l (Ok after) = vec_items after ≡ vec_items before ++ (l ∷ [])
+Kept (Err short) l (Ok after) = ⊥
+Kept before l (Err short) = Unit {0}

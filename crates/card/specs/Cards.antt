@@ -7,7 +7,8 @@ use Rattle.leg.specs.Legs.{IsLeg}
 use Rattle.leg.specs.Chains.{Each, Follows, ClosedAfter, Chained, last_or}
 use Rattle.leg.specs.declared.leg.Leg.{Leg}
 use Rattle.card.specs.Records.{parts, record_octets, record_length}
-use Rattle.card.specs.Refusals.{Reason, because}
+use Rattle.leg.specs.Reasons.{Reason, because}
+use Rattle.card.specs.declared.refusal.Refusal.{Refusal}
 use Rattle.card.specs.declared.refusal.Refusal.TheVariants.{ShortCard, WrongHeader, CountAboveCapacity, NoLeg, BrokenChain, TrailingOctet}
 
 module _ {P : Type 0} (K : Kind P) where
@@ -67,7 +68,7 @@ module _ {P : Type 0} (K : Kind P) where
     Unchained i before = (l : Leg P) × IsLeg K l × (record_octets K l ≡ record_at i) × (Follows before l → ⊥)
 
     -- After some legs that read well, the next record, one below the count, does not.
-    abbrev pub Stops : ℕ → Reason
+    abbrev pub Stops : ℕ → Reason Refusal
     Stops count f =
         (ls : List (Leg P)) × Reads 0 None ls × (length ls < count)
         × ((Unread (length ls) × (f ≡ NoLeg (length ls))) ⊎ (Unchained (length ls) (last_or None ls) × (f ≡ BrokenChain (length ls))))
@@ -76,7 +77,7 @@ module _ {P : Type 0} (K : Kind P) where
     abbrev pub Open : ℕ → Type 0
     Open count = (ls : List (Leg P)) × Reads 0 None ls × (length ls ≡ count) × (ClosedAfter (last_or None ls) → ⊥)
 
-    abbrev pub header_reasons : List Reason
+    abbrev pub header_reasons : List (Reason Refusal)
     header_reasons =
         because (length xs < 8) ShortCard
         ∷ because (take 4 xs ≢ front) WrongHeader
@@ -91,12 +92,12 @@ module _ {P : Type 0} (K : Kind P) where
       pub written : be 4 n ≡ take 4 (drop 4 xs)
       pub fits : n ≤ capacity (length xs)
 
-    abbrev pub record_reasons : List Reason
+    abbrev pub record_reasons : List (Reason Refusal)
     record_reasons =
         Stops count_of
         ∷ because (Open count_of) (BrokenChain count_of)
         ∷ because ((k : ℕ) × (8 + record_length K * count_of ≤ k) × (slice_index xs k ≢ 0)) TrailingOctet
         ∷ []
 
-    abbrev pub reasons : List Reason
+    abbrev pub reasons : List (Reason Refusal)
     reasons = header_reasons ++ record_reasons

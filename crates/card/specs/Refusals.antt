@@ -1,5 +1,5 @@
--- The refusals, and the first reason that holds.
-use Rattle.std.specs.Prelude.{◌≡◌, ℕ, ◌⊎◌, List, [], ◌∷◌, Some, None, Ok, Err, Option, Result}
+-- The refusals.
+use Rattle.std.specs.Prelude.{ℕ, Some, None, Option}
 use Rattle.card.specs.declared.refusal.Refusal.{Refusal}
 use Rattle.card.specs.declared.refusal.Refusal.TheVariants.{PastLastLeg, ShortResult, ShortCard, WrongHeader, CountAboveCapacity, NoLeg, BrokenChain, TrailingOctet}
 
@@ -13,20 +13,3 @@ row CountAboveCapacity = (23, None)
 row (NoLeg i) = (24, Some i)
 row (BrokenChain i) = (25, Some i)
 row TrailingOctet = (26, None)
-
--- Why a call refused, if it did.
-abbrev pub refusal : {A : Type 0} → Result A Refusal → Option Refusal
-refusal (Ok x) = None
-refusal (Err f) = Some f
-
--- A reason tells which refusals it gives: none where it does not hold.
-abbrev pub Reason : Type 1
-Reason = Refusal → Type 0
-
-abbrev pub because : Type 0 → Refusal → Reason
-because holds f g = holds × (g ≡ f)
-
--- The refusal that the first reason that holds gives, and none where no reason holds.
-abbrev pub First : List Reason → Option Refusal → Type 0
-First [] a = a ≡ None
-First (r ∷ rs) a = ((f : Refusal) × r f × (a ≡ Some f)) ⊎ (((f : Refusal) → r f → ⊥) × First rs a)

@@ -1,6 +1,6 @@
 //! Cards of any kind: each is read as one of the kind that its first octet names.
 ghost use Rattle.std.specs.Prelude.{◌≡◌, IfOk, slice_index};
-ghost use Rattle.card.specs.Refusals.{refusal};
+ghost use Rattle.leg.specs.Reasons.{refusal};
 ghost use Rattle.card.specs.Answers.{AnyRefusal, AnyCarries, read_refusal};
 
 use crate::read::{check, read};
@@ -18,11 +18,11 @@ pub enum AnyLegs {
     OfBox(Vec<Leg<Branches>>),
 }
 
-/// The octet that names a card's kind; 0, which names none, where there is no octet.
+/// The octet that names a card's kind; 0, which names none, where there is no octet. It stays a number, since it may name no kind.
 fn code_of(card: &[u8]) -> u8
     ensures { result ≡ slice_index card.now 0 }
 {
-    if card.len() == 0 { 0 } else { card[0] }
+    card.first().copied().unwrap_or(0)
 }
 
 /// Whether a card of any kind is accepted.

@@ -1,9 +1,9 @@
 //! The header of a card.
-ghost use Rattle.std.specs.Prelude.{◌≡◌, ◌<◌, ◌≤◌, IsTrue, ◌↔◌, ◌++◌, length, take, drop, Some as Just, MatchResult};
+ghost use Rattle.std.specs.Prelude.{◌≡◌, ◌<◌, ◌≤◌, ◌++◌, length, drop, Some as Just, MatchResult};
 ghost use Rattle.std.proofs.Math.Seq.{paste};
 ghost use Rattle.ordinate.specs.Octets.{be};
-ghost use Rattle.card.specs.Refusals.{First};
-ghost use Rattle.card.specs.Cards.{front, capacity as the_capacity, listed as the_listed, Counts, header_reasons};
+ghost use Rattle.leg.specs.Reasons.{First};
+ghost use Rattle.card.specs.Cards.{front as the_front, capacity as the_capacity, listed as the_listed, Counts, header_reasons};
 
 use crate::octets::{field, write_field};
 use crate::record::length_of_record;
@@ -14,7 +14,7 @@ use ordinate::kind::Ordinate;
 pub const HEADER: usize = 8;
 
 /// The only edition of the card format so far.
-const EDITION: u32 = 1;
+const EDITION: u8 = 1;
 
 /// No card has more records than this.
 const MOST_RECORDS: usize = 67_108_864;
@@ -26,18 +26,12 @@ pub fn capacity<P: Ordinate>(octets: usize) -> usize
     (octets.saturating_sub(HEADER) / length_of_record::<P>()).min(MOST_RECORDS)
 }
 
-/// Whether a card begins with the kind, the edition and the record length of a card of this kind.
-fn is_fronted<P: Ordinate>(card: &[u8]) -> bool
-    requires { 4 ≤ length card.now }
-    ensures { IsTrue result ↔ take 4 card.now ≡ front P.kind }
+/// What a card of this kind begins with: the kind, the edition and the record length.
+fn front<P: Ordinate>() -> [u8; 4]
+    ensures { result ≡ the_front P.kind }
 {
-    let code = field(card, 0, 1);
-    let edition = field(card, 1, 1);
-    let width = field(card, 2, 2);
-    if code != P::code() as u32 || edition != EDITION {
-        return false;
-    }
-    width as usize == length_of_record::<P>()
+    let [high, low] = (length_of_record::<P>() as u16).to_be_bytes();
+    [P::code(), EDITION, high, low]
 }
 
 /// The number of records that the header says, which the card has room for; or the first refusal that the header gives.
@@ -47,7 +41,7 @@ pub(crate) fn read_header<P: Ordinate>(card: &[u8]) -> Result<usize, Refusal>
     if card.len() < HEADER {
         return Err(Refusal::ShortCard);
     }
-    if !is_fronted::<P>(card) {
+    if !card.starts_with(&front::<P>()) {
         return Err(Refusal::WrongHeader);
     }
     let count = field(card, 4, 4) as usize;
@@ -70,13 +64,11 @@ pub fn listed<P: Ordinate>(card: &[u8]) -> usize
 
 /// Writes the kind, the edition and the record length; octets too few for a header are left alone.
 pub fn write_front<P: Ordinate>(card: &mut [u8])
-    ensures long { 8 ≤ length card.old → card.new ≡ front P.kind ++ drop 4 card.old }
+    ensures long { 8 ≤ length card.old → card.new ≡ the_front P.kind ++ drop 4 card.old }
     ensures short { length card.old < 8 → card.new ≡ card.old }
 {
     if card.len() >= HEADER {
-        write_field(card, 0, 1, P::code() as u64);
-        write_field(card, 1, 1, EDITION as u64);
-        write_field(card, 2, 2, length_of_record::<P>() as u64);
+        card[..4].copy_from_slice(&front::<P>());
     }
 }
 

@@ -2,29 +2,16 @@
 ghost use Rattle.std.specs.Prelude.{◌≡◌, List, IfOk, None as Nothing, Option, OnOk};
 ghost use Rattle.leg.specs.Chains.{Seamless, stretches};
 ghost use Rattle.leg.specs.declared.leg.Leg.{Leg as LegT};
-ghost use Rattle.card.specs.Refusals.{First, refusal};
+ghost use Rattle.leg.specs.Reasons.{First, refusal};
 ghost use Rattle.card.specs.Cards.{Carries, reasons};
-ghost use Rattle.card.specs.Answers.{CollectedFrom, read_refusal};
-ghost use Rattle.card.specs.Laws.Collected.{collected_none};
+ghost use Rattle.card.specs.Answers.{Kept, read_refusal};
 ghost use Rattle.card.specs.declared.refusal.Refusal.{Refusal as RefusalT};
 
 use crate::refusal::{ReadError, Refusal};
-use crate::walk::{Visitor, walk_card};
+use crate::walk::fold_card;
 use leg::leg::Leg;
 use ordinate::kind::Ordinate;
-use std::alloc::Global;
-
-/// Looks at no leg.
-#[derive(Drop)]
-struct Nobody;
-
-impl<P: Ordinate> Visitor<P> for Nobody {
-    ghost shown = { λ s ls t. Unit {0} };
-
-    ghost none = { λ s. tt };
-
-    fn visit(&mut self, _leg: &Leg<P>) {}
-}
+use std::alloc::{AllocError, Global};
 
 /// Whether a card of this kind is accepted.
 pub fn check<P: Ordinate>(card: &[u8]) -> Result<(), Refusal>
@@ -32,27 +19,19 @@ pub fn check<P: Ordinate>(card: &[u8]) -> Result<(), Refusal>
     ensures legs { OnOk result ((ls : List (LegT P)) × Carries P.kind card.now ls) }
     ensures exactly { (ls : List (LegT P)) → Carries P.kind card.now ls → refusal result ≡ Nothing }
 {
-    walk_card::<P, Nobody>(card, &mut Nobody)
+    fold_card::<P, _, _>(card, (), |_, _| ())
 }
 
-/// Keeps the legs that it is shown, while there is memory for them.
-#[derive(Drop)]
-struct Collector<P> {
-    legs: Vec<Leg<P>>,
-    short: bool,
-}
-
-impl<P: Ordinate> Visitor<P> for Collector<P> {
-    ghost shown = { λ s ls t. CollectedFrom s.legs.items s.short ls t.legs.items t.short };
-
-    ghost none = { λ s. collected_none s.legs.items s.short };
-
-    fn visit(&mut self, leg: &Leg<P>) {
-        match self.legs.push(*leg) {
-            Ok(()) => {}
-            Err(_) => self.short = true,
-        }
-    }
+/// The legs kept before and one more, while there is memory for them.
+fn keep<P: Ordinate>(
+    legs: Result<Vec<Leg<P>>, AllocError>,
+    leg: Leg<P>,
+) -> Result<Vec<Leg<P>>, AllocError>
+    ensures { Kept legs leg result }
+{
+    let mut legs = legs?;
+    legs.push(leg)?;
+    Ok(legs)
 }
 
 /// The legs that a card of this kind carries.
@@ -64,19 +43,6 @@ pub fn read<P: Ordinate>(heap: Global, card: &[u8]) -> Result<Vec<Leg<P>>, ReadE
     ensures one { (a b : Option RefusalT) → First (reasons P.kind card.now) a → First (reasons P.kind card.now) b → a ≡ b }
     ensures seamless { IfOk result (λ v. Seamless Nothing (stretches v.items)) }
 {
-    let mut collector = Collector {
-        legs: Vec::new(heap),
-        short: false,
-    };
-    match walk_card::<P, Collector<P>>(card, &mut collector) {
-        Err(refusal) => Err(ReadError::Refused(refusal)),
-        Ok(()) => {
-            let Collector { legs, short } = collector;
-            if short {
-                Err(ReadError::NoMemory)
-            } else {
-                Ok(legs)
-            }
-        }
-    }
+    let legs = fold_card(card, Ok(Vec::new(heap)), keep::<P>)?;
+    Ok(legs?)
 }

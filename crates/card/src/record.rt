@@ -1,5 +1,6 @@
 //! One record: the octets of one leg, whatever header and chain it stands in.
-ghost use Rattle.std.specs.Prelude.{◌≡◌, ◌+◌, ◌*◌, ◌≤◌, false, T, ◌++◌, length, take, MatchOption, ◌≢◌};
+ghost use Rattle.std.specs.Prelude.{◌≡◌, ◌+◌, ◌*◌, ◌≤◌, false, IsTrue, ◌↔◌, length, MatchOption, ◌≢◌};
+ghost use Rattle.std.proofs.Math.Seq.{paste};
 ghost use Rattle.ordinate.specs.Kinds.{point_octets};
 ghost use Rattle.leg.specs.Legs.{IsLeg};
 ghost use Rattle.leg.specs.declared.leg.Leg.{Leg as LegT};
@@ -16,23 +17,14 @@ pub fn length_of_record<P: Ordinate>() -> usize
     12 + 24 * P::dimension()
 }
 
-fn eight(octets: &[u8]) -> [u8; 8]
-    requires { length octets.now ≡ 8 }
-    ensures { result ≡ octets.now }
-{
-    let mut a = [0u8; 8];
-    a.copy_from_slice(octets);
-    a
-}
-
 fn read_point<P: Ordinate>(octets: &[u8], at: usize) -> P
     requires { at + 8 * P.kind.dimension ≤ length octets.now }
     ensures { result ≡ point_at P.kind at octets.now }
 {
+    let (coordinates, _) = octets[at..at + 8 * P::dimension()].as_chunks::<8>();
     let mut p = P::zero();
-    for i in 0..P::dimension() {
-        let from = at + 8 * i;
-        p = p.with(i, eight(&octets[from..from + 8]));
+    for (i, coordinate) in coordinates.iter().enumerate() {
+        p = p.with(i, *coordinate);
     }
     p
 }
@@ -92,8 +84,9 @@ pub fn read_record<P: Ordinate>(octets: &[u8]) -> Option<Leg<P>>
 
 fn write_point<P: Ordinate>(into: &mut [u8], at: usize, p: P)
     requires { at + 8 * P.kind.dimension ≤ length into.old }
-    ensures { take (at + 8 * P.kind.dimension) into.new ≡ take at into.old ++ point_octets P.kind p }
+    ensures { into.new ≡ paste into.old at (point_octets P.kind p) (8 * P.kind.dimension) }
 {
+    // By index, since nothing is known of a slice after its chunks are lent to be written.
     for i in 0..P::dimension() {
         let octets = p.octets(i);
         into[at + 8 * i..at + 8 * i + 8].copy_from_slice(&octets);
@@ -119,8 +112,8 @@ pub(crate) fn encode<P: Ordinate>(leg: &Leg<P>, into: &mut [u8])
 
 /// Writes the record of any data, a leg's or not, and says so; octets that are not as many as a record's are left alone.
 pub fn write_data<P: Ordinate>(leg: &Leg<P>, into: &mut [u8]) -> bool
-    ensures yes { T result → (length into.old ≡ record_length P.kind) × (into.new ≡ record_octets P.kind leg.now) }
-    ensures no { length into.old ≡ record_length P.kind → T result }
+    ensures fits { IsTrue result ↔ length into.old ≡ record_length P.kind }
+    ensures written { IsTrue result → into.new ≡ record_octets P.kind leg.now }
     ensures same { result ≡ false → into.new ≡ into.old }
 {
     if into.len() != length_of_record::<P>() {
@@ -132,8 +125,8 @@ pub fn write_data<P: Ordinate>(leg: &Leg<P>, into: &mut [u8]) -> bool
 
 /// Writes the record of a leg, and says so; data that is no leg, and octets that are not as many as a record's, are left alone.
 pub fn write_record<P: Ordinate>(leg: &Leg<P>, into: &mut [u8]) -> bool
-    ensures yes { T result → IsLeg P.kind leg.now × (length into.old ≡ record_length P.kind) × (into.new ≡ record_octets P.kind leg.now) }
-    ensures no { IsLeg P.kind leg.now × (length into.old ≡ record_length P.kind) → T result }
+    ensures fits { IsTrue result ↔ IsLeg P.kind leg.now × (length into.old ≡ record_length P.kind) }
+    ensures written { IsTrue result → into.new ≡ record_octets P.kind leg.now }
     ensures same { result ≡ false → into.new ≡ into.old }
 {
     if !leg.is_leg() {

@@ -1,7 +1,9 @@
 //! Why a card is not read, or a value not told.
 ghost use Rattle.std.specs.Prelude.{◌≡◌};
 ghost use Rattle.card.specs.Refusals.{row};
+ghost use Rattle.card.specs.declared.refusal.ReadError.TheVariants.{Refused, NoMemory};
 
+use std::alloc::AllocError;
 use std::fmt;
 
 /// A record is named by its place, from 0. `row` (specs/Refusals.antt) has the numbers.
@@ -30,6 +32,22 @@ pub enum Refusal {
 pub enum ReadError {
     Refused(Refusal),
     NoMemory,
+}
+
+impl From<Refusal> for ReadError {
+    ghost from_gives = { λ f e. e ≡ Refused f };
+
+    fn from(refusal: Refusal) -> ReadError {
+        ReadError::Refused(refusal)
+    }
+}
+
+impl From<AllocError> for ReadError {
+    ghost from_gives = { λ _ e. e ≡ NoMemory };
+
+    fn from(_: AllocError) -> ReadError {
+        ReadError::NoMemory
+    }
 }
 
 impl Refusal {

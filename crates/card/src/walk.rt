@@ -1,8 +1,9 @@
-//! Reading a card: its records once, in order, each as soon as it is read shown to a visitor.
-ghost use Rattle.std.specs.Prelude.{◌≡◌, ◌+◌, List, [], ◌∷◌, ◌++◌, length, None as Nothing, MatchResult};
+//! Reading a card: its records once, in order, and each leg as soon as it is read given to a step of the caller's.
+ghost use Rattle.std.specs.Prelude.{◌≡◌, List, length, None as Nothing, MatchResult};
+ghost use Rattle.std.specs.List.{FoldsTo};
 ghost use Rattle.leg.specs.Chains.{last_or};
+ghost use Rattle.leg.specs.Reasons.{First, refusal};
 ghost use Rattle.leg.specs.declared.leg.Leg.{Leg as LegT};
-ghost use Rattle.card.specs.Refusals.{First, refusal};
 ghost use Rattle.card.specs.Cards.{Carries, Reads, Stops, reasons};
 
 use crate::header::read_header;
@@ -14,28 +15,21 @@ use leg::chain::Chain;
 use leg::leg::Leg;
 use ordinate::kind::Ordinate;
 
-/// What is done with the legs of a card as they are read.
-pub(crate) trait Visitor<P: Ordinate> {
-    /// From the first state, having been shown these legs, in this order, it has come to the second.
-    ghost shown: { Self → List (LegT P) → Self → Type 0 };
-
-    fn visit(&mut self, leg: &Leg<P>)
-        ensures { (s : Self) (ls : List (LegT P)) → shown s ls self.old → shown s (ls ++ (leg.now ∷ [])) self.new };
-
-    ghost none: { (s : Self) → shown s [] s };
-}
-
-/// The chain of all the records, or the first of them that does not go on it.
-fn walk_records<P: Ordinate, V: Visitor<P>>(
+/// The chain of all the records, and what the steps over their legs come to; or the first record that does not go on the chain.
+fn fold_records<P: Ordinate, A: Drop, F: Fn(A, Leg<P>) -> A>(
     card: &[u8],
     count: usize,
-    visitor: &mut V,
-) -> Result<Chain<P>, Refusal>
+    start: A,
+    step: F,
+) -> Result<(Chain<P>, A), Refusal>
+    requires { F.IsAlwaysCallable step }
     ensures { MatchResult result
-        (λ chain. (ls : List (LegT P)) × Reads P.kind card.now 0 Nothing ls × (length ls ≡ count) × (chain.last ≡ last_or Nothing ls) × V.shown visitor.old ls visitor.new)
+        (λ done. (ls : List (LegT P)) × Reads P.kind card.now 0 Nothing ls × (length ls ≡ count) × (done.0.last ≡ last_or Nothing ls) × FoldsTo (λ a l b. F.post step a l b) start ls done.1)
         (λ f. Stops P.kind card.now count f) }
 {
     let mut chain = Chain::new();
+    let mut folded = start;
+    // by place: a refusal names the record's
     for i in 0..count {
         let Some(leg) = read_record::<P>(record_octets::<P>(card, i)) else {
             return Err(Refusal::NoLeg(i));
@@ -43,29 +37,31 @@ fn walk_records<P: Ordinate, V: Visitor<P>>(
         if !chain.take(&leg) {
             return Err(Refusal::BrokenChain(i));
         }
-        visitor.visit(&leg);
+        folded = step(folded, leg);
     }
-    Ok(chain)
+    Ok((chain, folded))
 }
 
-/// Reads the whole card as one of this kind.
-pub(crate) fn walk_card<P: Ordinate, V: Visitor<P>>(
+/// Reads the whole card as one of this kind, and answers what the steps over its legs come to.
+pub(crate) fn fold_card<P: Ordinate, A: Drop, F: Fn(A, Leg<P>) -> A>(
     card: &[u8],
-    visitor: &mut V,
-) -> Result<(), Refusal>
+    start: A,
+    step: F,
+) -> Result<A, Refusal>
+    requires { F.IsAlwaysCallable step }
     ensures answer { First (reasons P.kind card.now) (refusal result) }
     ensures legs { MatchResult result
-        (λ _. (ls : List (LegT P)) × Carries P.kind card.now ls × V.shown visitor.old ls visitor.new)
+        (λ folded. (ls : List (LegT P)) × Carries P.kind card.now ls × FoldsTo (λ a l b. F.post step a l b) start ls folded)
         (λ _. (ls : List (LegT P)) → Carries P.kind card.now ls → ⊥) }
 {
     let count = read_header::<P>(card)?;
-    let chain = walk_records(card, count, visitor)?;
+    let (chain, folded) = fold_records(card, count, start, step)?;
     if !chain.is_closed() {
         return Err(Refusal::BrokenChain(count));
     }
     let (_, rest) = card.split_at(place_of::<P>(card, count));
     match first_set(rest) {
         Some(_) => Err(Refusal::TrailingOctet),
-        None => Ok(()),
+        None => Ok(folded),
     }
 }

@@ -5,7 +5,8 @@ use Rattle.ordinate.specs.Flows.{flow}
 use Rattle.ordinate.specs.declared.flow.Flow.{Flow}
 use Rattle.leg.specs.Values.{FirstTells}
 use Rattle.leg.specs.declared.leg.Leg.{Leg}
-use Rattle.card.specs.Refusals.{Reason, because, First, row}
+use Rattle.leg.specs.Reasons.{Reason, because, First}
+use Rattle.card.specs.Refusals.{row}
 use Rattle.card.specs.Cards.{Carries}
 use Rattle.card.specs.Answers.{value_reasons, AnyRefusal}
 use Rattle.card.specs.declared.refusal.Refusal.{Refusal}
@@ -17,7 +18,7 @@ answered None = 0
 answered (Some f) = (row f).0
 
 -- Why no value is written to a result of so many octets: a short one is refused first of all.
-abbrev pub told_reasons : List ℕ → ℕ → ℕ → List Reason
+abbrev pub told_reasons : List ℕ → ℕ → ℕ → List (Reason Refusal)
 told_reasons xs a room = because (room < 8) ShortResult ∷ value_reasons xs a
 
 -- The first octets of the result become the value that the card tells at the tick, and the others stay.

@@ -2,7 +2,7 @@
 #![tactic(auto)]
 
 ghost use Rattle.std.specs.Prelude.{◌≡◌, length, MatchResult};
-ghost use Rattle.card.specs.Refusals.{First, refusal};
+ghost use Rattle.leg.specs.Reasons.{First, refusal};
 ghost use Rattle.card_calls.specs.Calls.{answered, CheckCall, ValueCall, Told, told_reasons};
 
 use card::any::check_any;

@@ -1,29 +1,24 @@
 -- What the octets of a card hold, after a record is added and after records are dropped.
-use Rattle.std.proofs.Common.{◌≡◌, ℕ, zero, suc, ◌+◌, ◌-◌, ◌*◌, ◌^◌, ◌<◌, ◌≤◌, min, List, [], ◌∷◌, ◌++◌, length, get_or, take, drop, replicate, Some, None, Option, sym, refl, ap, ◌∙◌, ap₂, inl, inr, add-one, arith, length-drop, length-take, take_all, take-add, MatchOption}
+use Rattle.std.proofs.Common.{◌≡◌, ℕ, zero, suc, ◌+◌, ◌-◌, ◌*◌, ◌^◌, ◌<◌, ◌≤◌, min, List, [], ◌∷◌, ◌++◌, length, get_or, take, drop, replicate, Some, None, Option, sym, refl, ap, ◌∙◌, subst, ap₂, inl, inr, add-one, arith, length-drop, length-take, take_all, take-add, MatchOption}
 use lib.Seq.{paste, take-append-le, drop-append-le}
 use Rattle.std.specs.Int.Digits.{number_from_digits}
 use Rattle.std.proofs.lemmas.Nat.{mul-le}
-use Rattle.std.proofs.lemmas.List.{append_assoc, append-nil, take_at, drop_at, take-take, drop-drop, drop-take, length-append, length_push, length-replicate, replicate-append-replicate, drop-replicate, take-append-drop, get_or_append_left, get_or-append_right}
+use Rattle.std.proofs.lemmas.List.{append_assoc, append-nil, take_at, drop_at, take-take, drop-drop, length-append, length_push, length-replicate, replicate-append-replicate, drop-replicate, take-append-drop, get_or_append_left, get_or-append_right}
+use Rattle.std.proofs.lemmas.List.Edits.{paste_all}
 use Rattle.std.proofs.lemmas.Bool.{cases_lt}
 use Rattle.ordinate.specs.Octets.{be}
 use Rattle.ordinate.specs.Kinds.{Kind, Lawful}
 use Rattle.ordinate.specs.Laws.Octets.{length_be, number_be}
 use Rattle.leg.specs.Legs.{IsLeg}
-use Rattle.outlet.specs.Outlets.{with_legs, kept}
+use Rattle.outlet.specs.Outlets.{Contents, with_legs, kept}
 use Rattle.leg.specs.declared.leg.Leg.{Leg}
 use Rattle.card.specs.Records.{leg_of, record_octets, record_length}
 use Rattle.card.specs.Cards.{front, records, card_of, capacity, count_of, listed, record_at}
 use Rattle.card_writer.specs.Outlet.{first_legs, legs_on, on_card, Carded, with_record, without_records}
 use Rattle.card_writer.specs.Laws.Held.{length_first}
-use Rattle.card.proofs.Codec.{leg_read, record_length_is}
+use Rattle.card.proofs.Codec.{leg_read, part_of_front, record_length_is}
 use Rattle.card.proofs.Carried.{front_length, records_length}
-use Rattle.card.proofs.Writing.{pasted}
-
--- a part of the front of some octets is that part of them all
-part_of_front : (at n m : ℕ) (xs : List ℕ) → at + n ≤ m → take n (drop at (take m xs)) ≡ take n (drop at xs)
-part_of_front at n m xs h =
-    let z : m ≡ at + (m - at) = omega arith in
-    ap (λ (k : ℕ). take n (drop at (take k xs))) z ∙ ap (take n) (drop-take at (m - at) xs) ∙ take-take n (m - at) (drop at xs) (omega arith)
+use Rattle.card_writer.proofs.Started.{room_for, room_of}
 
 places_less : (m w n : ℕ) → m - (8 + w * n) - w ≡ m - (8 + w * (n + 1))
 places_less m w n = omega arith
@@ -35,12 +30,12 @@ pasted_twice xs r b s n lr lb h =
     let rest = r ++ drop (8 + s + n) xs in
     let ys = paste xs (8 + s) r n in
     let y : ys ≡ take 8 xs ++ (take s (drop 8 xs) ++ rest) =
-    pasted xs (8 + s) n r lr ∙ ap (λ (us : List ℕ). us ++ rest) (take-add 8 s xs) ∙ append_assoc (take 8 xs) (take s (drop 8 xs)) rest in
+    paste_all xs (8 + s) r n (sym lr) ∙ ap (λ (us : List ℕ). us ++ rest) (take-add 8 s xs) ∙ append_assoc (take 8 xs) (take s (drop 8 xs)) rest in
     let l₈ : length (take 8 xs) ≡ 8 = omega (arith, length-take 8 xs) in
     let l₄ : length (take 4 xs) ≡ 4 = omega (arith, length-take 4 xs) in
     let t₄ : take 4 ys ≡ take 4 xs = ap (take 4) y ∙ take-append-le 4 (take 8 xs) _ (omega arith) ∙ take-take 4 8 xs (omega arith) in
     let d₈ : drop 8 ys ≡ take s (drop 8 xs) ++ rest = ap (drop 8) y ∙ drop_at (take 8 xs) _ 8 l₈ in
-    pasted ys 4 4 b lb ∙ ap₂ (λ (us vs : List ℕ). us ++ (b ++ vs)) t₄ d₈
+    paste_all ys 4 b 4 (sym lb) ∙ ap₂ (λ (us vs : List ℕ). us ++ (b ++ vs)) t₄ d₈
 
 module _ {P : Type 0} (K : Kind P) where
   abbrev w : ℕ
@@ -186,7 +181,7 @@ module _ {P : Type 0} (K : Kind P) where
         ∙ ap₂ (λ (ms : List (Leg P)) (o : List ℕ). ms ++ (leg_of K o ∷ [])) (first_same n xs ys (rewritten_before xs n (record_octets K l) (n + 1) ys put_room put_small put_form)) here
         ∙ ap (λ (m : Leg P). legs_on K xs ++ (m ∷ [])) (leg_read K law l il)
 
-    pub put_held : on_card K ys ≡ with_legs (on_card K xs) (l ∷ [])
+    put_held : on_card K ys ≡ with_legs (on_card K xs) (l ∷ [])
     put_held =
         ap₂ (λ (ms : List (Leg P)) (c : ℕ). record { legs = ms; capacity = c }) put_legs (ap (capacity K) (rewritten_length xs n (record_octets K l) (n + 1) ys put_room put_small put_form))
 
@@ -249,7 +244,7 @@ module _ {P : Type 0} (K : Kind P) where
         ap (λ (j : ℕ). first_legs K j zs) (rewritten_listed xs k blanks k zs keep_room keep_small keep_form (omega arith))
         ∙ first_same k xs zs (rewritten_before xs k blanks k zs keep_room keep_small keep_form) ∙ sym (take_first k m xs (omega arith))
 
-    pub keep_held : on_card K zs ≡ kept k (on_card K xs)
+    keep_held : on_card K zs ≡ kept k (on_card K xs)
     keep_held =
         ap₂ (λ (ms : List (Leg P)) (c : ℕ). record { legs = ms; capacity = c }) keep_legs (ap (capacity K) (rewritten_length xs k blanks k zs keep_room keep_small keep_form))
 
@@ -271,7 +266,7 @@ module _ {P : Type 0} (K : Kind P) where
         carded_from xs k blanks k zs keep_room keep_small keep_form (take k ls) (sym tk) (card_front xs ls e)
         (ap₂ (λ (us vs : List ℕ). us ++ (blanks ++ vs)) body rest ∙ ap (λ (us : List ℕ). records K (take k ls) ++ us) (replicate-append-replicate (w * (m - k)) (length xs - (8 + w * m)) 0 ∙ ap (λ (j : ℕ). replicate j 0) sum))
 
-    pub keep_carded : Carded K xs → Carded K zs
+    keep_carded : Carded K xs → Carded K zs
     keep_carded h =
         let len = rewritten_length xs k blanks k zs keep_room keep_small keep_form in
         record { card = λ _. keep_card h ∙ ap (λ (ms : List (Leg P)). card_of K ms (length zs)) (sym keep_legs); short = λ s. absurd (omega arith) }
@@ -279,3 +274,23 @@ module _ {P : Type 0} (K : Kind P) where
   pub keep_all : (xs : List ℕ) (k : ℕ) → listed K xs ≤ k → on_card K xs ≡ kept k (on_card K xs)
   keep_all xs k h =
       ap (λ (ls : List (Leg P)). record { legs = ls; capacity = capacity K (length xs) }) (sym (take_all k (legs_on K xs) (omega (arith, length_first K (listed K xs) xs))))
+
+  -- ---- what a change leaves
+  pub record Changed (xs ys : List ℕ) (after : Contents P) : Type 0 where
+    pub holds : on_card K ys ≡ after
+    pub carded : Carded K xs → Carded K ys
+
+  pub put_done : Lawful K → (xs : List ℕ) (l : Leg P) → IsLeg K l → (n : ℕ) (ys : List ℕ) → n ≡ listed K xs → n < capacity K (length xs) → ys ≡ with_record K xs n l
+      → Changed xs ys (with_legs (on_card K xs) (l ∷ []))
+  put_done law xs l il n ys same below e =
+      let room : listed K xs < capacity K (length xs) = omega arith in
+      let long = room_for K (length xs) (listed K xs) room in
+      let e' = e ∙ ap (λ (k : ℕ). with_record K xs k l) same in
+      record { holds = ap (on_card K) e' ∙ put_held law xs l il room long; carded = λ h. subst (Carded K) (sym e') (put_carded law xs l il room long h) }
+
+  pub keep_done : (xs : List ℕ) (n m : ℕ) (ys : List ℕ) → m ≡ listed K xs → n < m → ys ≡ without_records K xs n m → Changed xs ys (kept n (on_card K xs))
+  keep_done xs n m ys same below e =
+      let fewer : n < listed K xs = omega arith in
+      let long = room_of K (length xs) (listed K xs) (omega arith) (omega arith) in
+      let e' = e ∙ ap (without_records K xs n) same in
+      record { holds = ap (on_card K) e' ∙ keep_held xs n fewer long; carded = λ h. subst (Carded K) (sym e') (keep_carded xs n fewer long h) }

@@ -1,5 +1,5 @@
 -- A whole list of legs on a card: its first legs so far, and the card that they make.
-use Rattle.std.proofs.Common.{◌≡◌, ℕ, zero, suc, ◌+◌, ◌*◌, ◌<◌, ◌≤◌, List, [], ◌∷◌, ◌++◌, length, get_or, take, drop, None, sym, refl, ap, ◌∙◌, subst, ap₂, arith, length-take, drop-cons}
+use Rattle.std.proofs.Common.{◌≡◌, ℕ, zero, suc, ◌+◌, ◌*◌, ◌<◌, ◌≤◌, List, [], ◌∷◌, ◌++◌, length, get_or, take, drop, sym, refl, ap, ◌∙◌, subst, ap₂, arith, length-take, drop-cons}
 use Rattle.std.proofs.lemmas.List.{take_more, take-append-drop, length-append}
 use Rattle.ordinate.specs.Kinds.{Kind, Lawful}
 use Rattle.leg.specs.Legs.{IsLeg}
@@ -8,11 +8,10 @@ use Rattle.leg.specs.declared.leg.Leg.{Leg}
 use Rattle.outlet.specs.declared.put_refusal.PutRefusal.{PutRefusal}
 use Rattle.outlet.specs.declared.put_refusal.PutRefusal.TheVariants.{NoLeg, Full}
 use Rattle.card.specs.Records.{record_length}
-use Rattle.card.specs.Refusals.{First}
-use Rattle.card.specs.Cards.{card_of, capacity, listed, Carries, reasons}
+use Rattle.card.specs.Cards.{card_of, capacity, listed, Carries}
 use Rattle.card_writer.specs.Outlet.{legs_on, Carded, with_record, written, started, Fit, Refuses}
 use Rattle.card.proofs.Headers.{capacity_room, capacity_limit}
-use Rattle.card.proofs.Carried.{found, found_accepted}
+use Rattle.card.proofs.Carried.{found}
 use Rattle.card_writer.specs.Laws.Held.{length_first}
 use Rattle.card_writer.proofs.Held.{put_legs, put_length, put_carded}
 use Rattle.card_writer.proofs.Started.{begun, room_for, written_long, card_length}
@@ -98,11 +97,3 @@ module _ {P : Type 0} (K : Kind P) where
         limit = capacity_limit K (length ls) n fit.fits;
         octets = card ∙ ap (card_of K ls) (sym len);
       }
-
-  pub carries_accepted : Lawful K → (xs : List ℕ) (ls : List (Leg P)) → Carries K xs ls → First (reasons K xs) None
-  carries_accepted law xs ls h = found_accepted K xs law (length ls) ls (found K xs ls h)
-
-  pub carries_written : (n : ℕ) (ls : List (Leg P)) (xs : List ℕ) → length xs ≡ n → Carries K xs ls → written K ls n ≡ xs
-  carries_written n ls xs len h =
-      let room = h.room in
-      written_long K ls n (omega arith) ∙ ap (card_of K ls) (sym len) ∙ sym h.octets

@@ -39,6 +39,8 @@ fn drop_records<P: Ordinate>(octets: &mut [u8], n: usize, m: usize)
 }
 
 /// Octets that legs of one kind are put on. Once started they are a card of those legs at any time.
+///
+/// Contracts speak of the field itself: by its ghost name the owner of the octets knows what they hold once the outlet is gone.
 #[derive(Drop)]
 pub struct CardOutlet<'a, P: Drop> {
     octets: &'a mut [u8],
@@ -76,62 +78,8 @@ impl<'a, P: Ordinate> CardOutlet<'a, P> {
     }
 }
 
-// Each call of the outlet works on the octets alone.
-
+// Each method borrows the octets anew, since what is lent straight from `self` loses the facts about it.
 #[tactic(auto, using(crate::specs::Laws::Held::length_first))]
-fn count_on<P: Ordinate>(octets: &mut [u8]) -> usize
-    ensures same { octets.new ≡ octets.old }
-    ensures value { result ≡ length (on_card P.kind octets.old).legs }
-{
-    listed::<P>(octets)
-}
-
-#[tactic(auto, using(crate::specs::Laws::Held::length_first))]
-fn free_on<P: Ordinate>(octets: &mut [u8]) -> usize
-    ensures same { octets.new ≡ octets.old }
-    ensures value { result ≡ room (on_card P.kind octets.old) }
-{
-    capacity::<P>(octets.len()) - listed::<P>(octets)
-}
-
-#[tactic(auto, using(crate::specs::Laws::Held::length_first))]
-fn get_on<P: Ordinate>(octets: &mut [u8], i: usize) -> Option<Leg<P>>
-    ensures same { octets.new ≡ octets.old }
-    ensures finds { MatchOption result (length (on_card P.kind octets.old).legs ≤ i) (λ l. (i < length (on_card P.kind octets.old).legs) × (l ≡ slice_index_or (on_card P.kind octets.old).legs i l)) }
-{
-    if i >= listed::<P>(octets) {
-        return None;
-    }
-    read_data::<P>(record_octets::<P>(octets, i))
-}
-
-fn put_on<P: Ordinate>(octets: &mut [u8], leg: &Leg<P>) -> Result<(), PutRefusal>
-    ensures puts { Put P.kind (on_card P.kind octets.old) leg.now result (on_card P.kind octets.new) }
-    ensures carded { Carded P.kind octets.old → Carded P.kind octets.new }
-    ensures octets { MatchResult result (λ _. octets.new ≡ with_record P.kind octets.old (the_listed P.kind octets.old) leg.now) (λ _. octets.new ≡ octets.old) }
-{
-    if !leg.is_leg() {
-        return Err(PutRefusal::NoLeg);
-    }
-    let n = listed::<P>(octets);
-    if n >= capacity::<P>(octets.len()) {
-        return Err(PutRefusal::Full);
-    }
-    add_record(octets, n, leg);
-    Ok(())
-}
-
-fn keep_on<P: Ordinate>(octets: &mut [u8], n: usize)
-    ensures keeps { on_card P.kind octets.new ≡ kept n (on_card P.kind octets.old) }
-    ensures carded { Carded P.kind octets.old → Carded P.kind octets.new }
-    ensures octets { octets.new ≡ kept_octets P.kind n octets.old }
-{
-    let count = listed::<P>(octets);
-    if n < count {
-        drop_records::<P>(octets, n, count);
-    }
-}
-
 impl<'a, P: Ordinate> Outlet<P> for CardOutlet<'a, P> {
     ghost contents = { λ o. on_card P.kind o.octets.now };
 
@@ -143,7 +91,8 @@ impl<'a, P: Ordinate> Outlet<P> for CardOutlet<'a, P> {
         ensures home { self.new.octets.ghost_name ≡ self.old.octets.ghost_name }
         ensures octets { self.new.octets.now ≡ self.old.octets.now }
     {
-        count_on::<P>(self.octets)
+        let octets = &mut *self.octets;
+        listed::<P>(octets)
     }
 
     fn free(&mut self) -> usize
@@ -152,7 +101,8 @@ impl<'a, P: Ordinate> Outlet<P> for CardOutlet<'a, P> {
         ensures home { self.new.octets.ghost_name ≡ self.old.octets.ghost_name }
         ensures octets { self.new.octets.now ≡ self.old.octets.now }
     {
-        free_on::<P>(self.octets)
+        let octets = &mut *self.octets;
+        capacity::<P>(octets.len()) - listed::<P>(octets)
     }
 
     fn get(&mut self, i: usize) -> Option<Leg<P>>
@@ -161,7 +111,11 @@ impl<'a, P: Ordinate> Outlet<P> for CardOutlet<'a, P> {
         ensures home { self.new.octets.ghost_name ≡ self.old.octets.ghost_name }
         ensures octets { self.new.octets.now ≡ self.old.octets.now }
     {
-        get_on::<P>(self.octets, i)
+        let octets = &mut *self.octets;
+        if i >= listed::<P>(octets) {
+            return None;
+        }
+        read_data::<P>(record_octets::<P>(octets, i))
     }
 
     fn put(&mut self, leg: &Leg<P>) -> Result<(), PutRefusal>
@@ -170,7 +124,16 @@ impl<'a, P: Ordinate> Outlet<P> for CardOutlet<'a, P> {
         ensures carded { Carded P.kind self.old.octets.now → Carded P.kind self.new.octets.now }
         ensures octets { MatchResult result (λ _. self.new.octets.now ≡ with_record P.kind self.old.octets.now (the_listed P.kind self.old.octets.now) leg.now) (λ _. self.new.octets.now ≡ self.old.octets.now) }
     {
-        put_on(self.octets, leg)
+        if !leg.is_leg() {
+            return Err(PutRefusal::NoLeg);
+        }
+        let octets = &mut *self.octets;
+        let n = listed::<P>(octets);
+        if n >= capacity::<P>(octets.len()) {
+            return Err(PutRefusal::Full);
+        }
+        add_record(octets, n, leg);
+        Ok(())
     }
 
     fn keep(&mut self, n: usize)
@@ -179,6 +142,10 @@ impl<'a, P: Ordinate> Outlet<P> for CardOutlet<'a, P> {
         ensures carded { Carded P.kind self.old.octets.now → Carded P.kind self.new.octets.now }
         ensures octets { self.new.octets.now ≡ kept_octets P.kind n self.old.octets.now }
     {
-        keep_on::<P>(self.octets, n);
+        let octets = &mut *self.octets;
+        let count = listed::<P>(octets);
+        if n < count {
+            drop_records::<P>(octets, n, count);
+        }
     }
 }

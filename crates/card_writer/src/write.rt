@@ -1,7 +1,7 @@
 //! Writing a whole list of legs as a card.
 ghost use Rattle.std.specs.Prelude.{◌≡◌, ℕ, ◌≤◌, List, length, None as Nothing, Ok as Done, MatchResult, OnOk};
 ghost use Rattle.leg.specs.Chains.{Chained};
-ghost use Rattle.card.specs.Refusals.{First};
+ghost use Rattle.leg.specs.Reasons.{First};
 ghost use Rattle.card.specs.Cards.{Carries, reasons, capacity as the_capacity};
 ghost use Rattle.card_writer.specs.Outlet.{Fit, Refuses, started, written};
 

@@ -3,24 +3,25 @@ use Rattle.std.specs.Prelude.{◌≡◌, ℕ, zero, suc, ◌+◌, ◌<◌, Bool,
 use Rattle.std.specs.Bool.{Decides}
 use Rattle.std.specs.Option.{option_map}
 use Rattle.std.proofs.Common.{ap, subst, sym, ◌∙◌, inl, inr, arith}
-use Rattle.std.proofs.lemmas.Bool.Decides.{Decides-eqb, Decides-ltb, Decides-not, Decides-or}
+use Rattle.std.proofs.lemmas.Bool.Decides.{Decides-eqb, Decides-like, Decides-ltb, Decides-not, Decides-or}
 use Rattle.std.proofs.lemmas.Option.{none-some, same_Some}
 use Rattle.ordinate.specs.Kinds.{Lawful}
 use Rattle.distance.specs.Measures.{Beyond, Inside, Reaches, point}
-use Rattle.leg.specs.Reasons.{First, Reason, because}
+use Rattle.leg.specs.Reasons.{First, Reason, because, refusal}
 use Rattle.leg.specs.declared.leg.Cell.{Cell}
 use Rattle.curve.specs.Fewest.{Divisible, Fewest}
 use Rattle.curve.specs.Refusals.{work_wanted}
 use Rattle.curve.proofs.Divisions.{fewest_is_found, halving_is_fewest}
-use Rattle.turn.specs.Calls.{Call, History, Span, answer_of, end_tick, lay, refusal_of, seal, standing, strike}
+use Rattle.turn.specs.Calls.{Call, History, Span, answer_of, end_tick, lay, seal, standing, strike}
 use Rattle.turn.specs.Reasons.{Continues, FewestLegs, after, cell_passes, end_point, first_point, reasons}
 use Rattle.turn.specs.Runs.{recorded}
 use Rattle.turn.specs.Settings.{Full, Setting}
 use Rattle.turn.specs.Whole.{Answered}
 use Rattle.turn.specs.declared.refusal.Refusal.{Refusal}
-use Rattle.turn.specs.declared.refusal.Refusal.TheVariants.{Foreign, PointCount, PointBeyond, Ticks, PastEnd, Apart, ShortWork, TooBent, TooManyLegs, Empty, Torn, NotFull}
+use Rattle.curve.specs.declared.refusal.CurveRefusal.TheVariants.{PointCount, PointBeyond, ShortWork, TooBent, TooManyLegs}
+use Rattle.turn.specs.declared.refusal.Refusal.TheVariants.{Curve, Foreign, Ticks, PastEnd, Apart, Empty, Torn, NotFull}
 use Rattle.cases.specs.Computed.{added, answers, apart, drawn, exceeds, first_beyond, first_of, found, legs_taken, same_point, tests, when}
-use Rattle.cases.proofs.Same.{change, drawing, less, point as same}
+use Rattle.cases.proofs.Same.{drawing, less, point as same}
 
 -- ---- reasons and their tests
 
@@ -80,12 +81,12 @@ module _ {P : Type 0} (A : Setting P) (law : Lawful A.kind) where
           wrong : false ≡ true → ⊥
           wrong e = cc
 
-  beyond : (ps : List P) → Tests (λ f. (j : ℕ) × Beyond A.kind A.measure.limit ps j × (f ≡ PointBeyond j)) (option_map PointBeyond (first_beyond A ps))
+  beyond : (ps : List P) → Tests (λ f. (j : ℕ) × Beyond A.kind A.measure.limit ps j × (f ≡ Curve (PointBeyond j))) (option_map (λ i. Curve (PointBeyond i)) (first_beyond A ps))
   beyond ps = go (first_beyond A ps) (sought ps)
     where
-      go : (o : Option ℕ) → Sought ps o → Tests (λ f. (j : ℕ) × Beyond A.kind A.measure.limit ps j × (f ≡ PointBeyond j)) (option_map PointBeyond o)
+      go : (o : Option ℕ) → Sought ps o → Tests (λ f. (j : ℕ) × Beyond A.kind A.measure.limit ps j × (f ≡ Curve (PointBeyond j))) (option_map (λ j. Curve (PointBeyond j)) o)
       go None s = (λ f e. absurd (none-some f e), λ e f h. h.1.beyond (s h.0 h.1.there))
-      go (Some j) s = (λ f e. (j, s, sym (same_Some (PointBeyond j) f e)), λ e. absurd (none-some (PointBeyond j) (sym e)))
+      go (Some j) s = (λ f e. (j, s, sym (same_Some (Curve (PointBeyond j)) f e)), λ e. absurd (none-some (Curve (PointBeyond j)) (sym e)))
 
   -- ---- legs
 
@@ -135,7 +136,7 @@ module _ {P : Type 0} (A : Setting P) (law : Lawful A.kind) where
       )
 
   bent : (ps : List P) → Decides (is_none (found A ps)) (¬ (Divisible A.depth (cell_passes A ps)))
-  bent ps = change (is_none (found A ps)) (nothing (found A ps)) (halving_is_fewest.nothing A.depth (cell_passes A ps)).0 (halving_is_fewest.nothing A.depth (cell_passes A ps)).1
+  bent ps = Decides-like (is_none (found A ps)) (halving_is_fewest.nothing A.depth (cell_passes A ps)).0 (halving_is_fewest.nothing A.depth (cell_passes A ps)).1 (nothing (found A ps))
 
   -- ---- calls
 
@@ -144,13 +145,13 @@ module _ {P : Type 0} (A : Setting P) (law : Lawful A.kind) where
   goes_on (Some q) p = Decides-not (same_point A.kind p q) (same A.kind law p q)
 
   full : (n : ℕ) → Decides (nat_lt n A.end) (¬ (Full A n))
-  full n = change (nat_lt n A.end) (Decides-ltb n A.end) (λ l h. absurd (omega arith)) (λ h. omega arith)
+  full n = Decides-like (nat_lt n A.end) (λ l h. absurd (omega arith)) (λ h. omega arith) (Decides-ltb n A.end)
 
   all_test : (capacity : ℕ) (ss : List (Span P)) (call : Call P) → AllTest (reasons A (after A capacity ss) call) (tests A capacity ss call)
   all_test capacity ss (lay ps l work) = (
     never _ Foreign (λ h. h),
     (
-      tested _ _ PointCount (Decides-or _ _ (Decides-ltb (length ps) (A.rule.lowest + 1)) (Decides-ltb 9 (length ps))),
+      tested _ _ (Curve PointCount) (Decides-or _ _ (Decides-ltb (length ps) (A.rule.lowest + 1)) (Decides-ltb 9 (length ps))),
       (
         beyond ps,
         (
@@ -160,8 +161,8 @@ module _ {P : Type 0} (A : Setting P) (law : Lawful A.kind) where
             (
               tested _ _ Apart (goes_on (end_point A ss) (first_point A ps)),
               (
-                tested _ _ ShortWork (Decides-ltb work (work_wanted A.kind A.measure A.rule A.depth ps)),
-                (tested _ _ TooBent (bent ps), (tested _ _ TooManyLegs (crowded capacity ss ps), tt)),
+                tested _ _ (Curve ShortWork) (Decides-ltb work (work_wanted A.kind A.measure A.rule A.depth ps)),
+                (tested _ _ (Curve TooBent) (bent ps), (tested _ _ (Curve TooManyLegs) (crowded capacity ss ps), tt)),
               ),
             ),
           ),
@@ -174,7 +175,7 @@ module _ {P : Type 0} (A : Setting P) (law : Lawful A.kind) where
 
   -- ---- lists of calls
 
-  answered : (rs : List (Reason Refusal)) (o : Option Refusal) → First rs o → First rs (refusal_of (answer_of o))
+  answered : (rs : List (Reason Refusal)) (o : Option Refusal) → First rs o → First rs (refusal (answer_of o))
   answered rs None h = h
   answered rs (Some f) h = h
 

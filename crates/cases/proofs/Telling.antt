@@ -2,7 +2,7 @@
 use Rattle.std.specs.Prelude.{◌≡◌, ℕ, ◌*◌, ◌≤◌, Bool, true, false, cond, is_none, List, [], ◌∷◌, length, ℤ, pos, negsuc, int_le, Some, None, Option, refl}
 use Rattle.std.specs.Bool.{Decides}
 use Rattle.std.proofs.Common.{subst, inl, inr, arith}
-use Rattle.std.proofs.lemmas.Bool.Decides.{leb_tells}
+use Rattle.std.proofs.lemmas.Bool.Decides.{Decides-and, Decides-like, leb_tells}
 use Rattle.ordinate.specs.Kinds.{Kind}
 use Rattle.leg.specs.Chains.{Each}
 use Rattle.leg.specs.Legs.{IsLeg}
@@ -16,7 +16,7 @@ use Rattle.planner.specs.Telling.{CoversTick, FirstTells, point_at, tell_reasons
 use Rattle.planner.specs.declared.sealed.Sealed.{Sealed}
 use Rattle.cases.specs.Computed.{covers, first_of, first_told, tell_tests}
 use Rattle.cases.proofs.Answering.{first, never, nothing, tested}
-use Rattle.cases.proofs.Same.{both, change, less}
+use Rattle.cases.proofs.Same.{less}
 
 at_most : (a b : ℕ) → Decides (int_le (pos a) (pos b)) (a ≤ b)
 at_most a b = elim (leb_tells a b) [ inl p ↦ (λ h. p.1, λ l. p.0) | inr p ↦ (λ h. absurd (cc), λ l. absurd (omega arith)) ]
@@ -25,7 +25,7 @@ module _ {P : Type 0} (K : Kind P) where
   covering : (l : Leg P) (a : ℤ) → IsLeg K l → Decides (covers l.stretch a) (CoversTick K l a)
   covering l (pos a) h =
       let s = l.stretch in
-      change (covers s (pos a)) (both _ _ (at_most (begins_at s) (cells s * a)) (at_most (cells s * a) (ends_at s))) (λ x. (h, x)) (λ x. x.1)
+      Decides-like (covers s (pos a)) (λ x. (h, x)) (λ x. x.1) (Decides-and _ _ (at_most (begins_at s) (cells s * a)) (at_most (cells s * a) (ends_at s)))
   covering l (negsuc a) h = (λ e. absurd (cc), λ x. absurd x)
 
   pub telling : (ls : List (Leg P)) (a : ℤ) → Each (IsLeg K) ls → FirstTells K ls a (first_told K ls a)
@@ -48,8 +48,7 @@ module _ {P : Type 0} (K : Kind P) where
 
   told_nothing : (ls : List (Leg P)) (a : ℤ) → Each (IsLeg K) ls → Decides (is_none (first_told K ls a)) (FirstTells K ls a None)
   told_nothing ls a e =
-      change (is_none (first_told K ls a)) (nothing (first_told K ls a)) (λ q. subst (FirstTells K ls a) q (telling ls a e))
-      (λ n. none_told ls a (first_told K ls a) (telling ls a e) n)
+      Decides-like (is_none (first_told K ls a)) (λ q. subst (FirstTells K ls a) q (telling ls a e)) (λ n. none_told ls a (first_told K ls a) (telling ls a e) n) (nothing (first_told K ls a))
 
   pub telling_nothing : {R : Type 0} (s : Sealed P R) (c : Contents P) (a : ℤ) → length c.legs ≡ s.count → Each (IsLeg K) c.legs
       → First (tell_reasons K s c a) (first_of (tell_tests K s.end c.legs a))

@@ -14,11 +14,11 @@ use Rattle.distance.specs.Boxes.{box_measure}
 use Rattle.bezier.specs.Reductions.{Rule, chord, matching}
 use Rattle.leg.specs.Chains.{Each}
 use Rattle.leg.specs.Legs.{IsLeg}
-use Rattle.leg.specs.Reasons.{First}
+use Rattle.leg.specs.Reasons.{First, refusal}
 use Rattle.leg.specs.declared.leg.Leg.{Leg}
 use Rattle.outlet.specs.Outlets.{Contents}
 use Rattle.curve.specs.Cells.{cell}
-use Rattle.turn.specs.Calls.{Call, lay, seal, strike, refusal_of}
+use Rattle.turn.specs.Calls.{Call, lay, seal, strike}
 use Rattle.turn.specs.Refusals.{row}
 use Rattle.turn.specs.Runs.{recorded}
 use Rattle.turn.specs.Settings.{Setting}
@@ -63,7 +63,7 @@ module _ {P : Type 0} (A : Setting P) where
   tells_nothing (Some ls) a r = same_rows (option_map row (first_of (tell_tests A.kind A.end ls a))) r
 
   abbrev pub fact_holds : List P → Fact P → Bool
-  fact_holds ps (answered calls rows) = pointwise same_rows (map (λ a. option_map row (refusal_of a)) (answers A 4 [] calls)) rows
+  fact_holds ps (answered calls rows) = pointwise same_rows (map (λ a. option_map row (refusal a)) (answers A 4 [] calls)) rows
   fact_holds ps (has_legs o) = same_legs A.kind (legs A ps) o
   fact_holds ps (tells qs) = pointwise (option_eq (same_point A.kind)) (map (told (legs A ps)) (pos 0 ∷ pos 1 ∷ pos 2 ∷ pos 3 ∷ pos 4 ∷ [])) (map Some qs)
   fact_holds ps (untold a r) = tells_nothing (legs A ps) a r

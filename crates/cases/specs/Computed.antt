@@ -11,13 +11,13 @@ use Rattle.leg.specs.declared.leg.Leg.{Leg}
 use Rattle.leg.specs.declared.leg.Stretch.{Stretch}
 use Rattle.curve.specs.Cells.{halving}
 use Rattle.curve.specs.Refusals.{work_wanted}
-use Rattle.turn.specs.Calls.{Call, lay, strike, seal, Span, after_call, answer_of, end_tick, whole_ticks}
+use Rattle.turn.specs.Calls.{Answer, Call, lay, strike, seal, Span, after_call, answer_of, end_tick, whole_ticks}
 use Rattle.turn.specs.Outcomes.{legs_for}
 use Rattle.turn.specs.Reasons.{cell_passes, end_point, first_point}
 use Rattle.turn.specs.Settings.{Setting}
-use Rattle.turn.specs.declared.answer.Answer.{Answer}
 use Rattle.turn.specs.declared.refusal.Refusal.{Refusal}
-use Rattle.turn.specs.declared.refusal.Refusal.TheVariants.{PointCount, PointBeyond, Ticks, PastEnd, Apart, ShortWork, TooBent, TooManyLegs, Empty, NotFull, TickPastEnd, NoLegThere}
+use Rattle.curve.specs.declared.refusal.CurveRefusal.TheVariants.{PointCount, PointBeyond, ShortWork, TooBent, TooManyLegs}
+use Rattle.turn.specs.declared.refusal.Refusal.TheVariants.{Curve, Ticks, PastEnd, Apart, Empty, NotFull, TickPastEnd, NoLegThere}
 use Rattle.planner.specs.Telling.{point_at}
 
 -- ---- whether two are the same
@@ -87,14 +87,14 @@ module _ {P : Type 0} (A : Setting P) where
   abbrev pub tests : ℕ → List (Span P) → Call P → List (Option Refusal)
   tests capacity ss (lay ps l work) =
       None
-      ∷ when (nat_lt (length ps) (A.rule.lowest + 1) || nat_lt 9 (length ps)) PointCount
-      ∷ option_map PointBeyond (first_beyond ps)
+      ∷ when (nat_lt (length ps) (A.rule.lowest + 1) || nat_lt 9 (length ps)) (Curve PointCount)
+      ∷ option_map (λ i. Curve (PointBeyond i)) (first_beyond ps)
       ∷ when (int_lt l (pos 1) || int_lt (pos 4096) l) Ticks
       ∷ when (int_lt (pos A.end) (pos (end_tick ss) +ℤ l)) PastEnd
       ∷ when (apart (end_point A ss) (first_point A ps)) Apart
-      ∷ when (nat_lt work (work_wanted A.kind A.measure A.rule A.depth ps)) ShortWork
-      ∷ when (is_none (found ps)) TooBent
-      ∷ when (exceeds capacity (added (legs_taken ss) (found ps))) TooManyLegs
+      ∷ when (nat_lt work (work_wanted A.kind A.measure A.rule A.depth ps)) (Curve ShortWork)
+      ∷ when (is_none (found ps)) (Curve TooBent)
+      ∷ when (exceeds capacity (added (legs_taken ss) (found ps))) (Curve TooManyLegs)
       ∷ []
   tests capacity ss strike = None ∷ when (length ss == 0) Empty ∷ None ∷ []
   tests capacity ss seal = None ∷ when (nat_lt (end_tick ss) A.end) NotFull ∷ []

@@ -4,15 +4,17 @@
 mod planned;
 mod worked;
 
-use crate::planned::{ENOUGH_WORK, Plan, shown_by_both};
+use crate::planned::{Plan, shown_by_both};
 use crate::worked::worked_cases_hold;
 use bezier::chord::Chord;
 use bezier::matching::Matching;
 use bezier::reduction::Reduction;
+use curve::limits::MOST_WORK;
 use distance::measure::Distance;
 use distance::points::halved;
 use ordinate::branches::Branches;
 use ordinate::flow::Flow;
+use planner::begin::Terms;
 use std::alloc::{AllocError, Global};
 use std::fmt::Display;
 use turn::call::Call;
@@ -20,13 +22,21 @@ use turn::call::Call;
 /// The ticks of each turn.
 const TICKS: [i64; 5] = [0, 1, 2, 3, 4];
 
+/// What is agreed for a turn of four ticks.
+fn within(tolerance: i64, depth: i64) -> Terms {
+    Terms {
+        tolerance,
+        depth,
+        end: 4,
+    }
+}
+
 /// The points of a flow's curve.
 fn flows(heap: Global, values: &[i64]) -> Result<Vec<Flow>, AllocError> {
-    let mut points = Vec::new(heap);
-    for value in values {
-        points.push(Flow { value: *value })?;
-    }
-    Ok(points)
+    values
+        .iter()
+        .map(|value| Flow { value: *value })
+        .collect(heap)
 }
 
 /// The span of these points, over all four ticks of the turn.
@@ -45,7 +55,12 @@ fn print_plan<P: Distance + Display, R: Reduction<P>>(
     points: &[P],
     plan: Plan<'_, P>,
 ) -> anyhow::Result<()> {
-    let mut text = format!(in rt.alloc(); "{name} {} {}:", plan.tolerance, plan.depth)?;
+    let Terms {
+        tolerance,
+        depth,
+        ..
+    } = plan.terms;
+    let mut text = format!(in rt.alloc(); "{name} {tolerance} {depth}:")?;
     for point in points {
         write!(text, " {point}")?;
     }
@@ -58,14 +73,12 @@ fn print_plan<P: Distance + Display, R: Reduction<P>>(
 fn print_turn<P: Distance + Display, R: Reduction<P>>(
     rt: &HostRuntime,
     name: &str,
-    tolerance: i64,
-    depth: i64,
+    terms: Terms,
     points: &[P],
 ) -> anyhow::Result<()> {
-    let calls = [lay(points, ENOUGH_WORK), Call::Seal];
+    let calls = [lay(points, MOST_WORK), Call::Seal];
     let plan = Plan {
-        tolerance,
-        depth,
+        terms,
         calls: &calls,
         ticks: &TICKS,
     };
@@ -74,10 +87,9 @@ fn print_turn<P: Distance + Display, R: Reduction<P>>(
 
 /// The first turn, which is also asked for ticks that it has not, and laid with just enough work points, and with too few.
 fn print_rise(rt: &HostRuntime, rise: &[Flow]) -> anyhow::Result<()> {
-    let calls = [lay(rise, ENOUGH_WORK), Call::Seal];
+    let calls = [lay(rise, MOST_WORK), Call::Seal];
     let plan = Plan {
-        tolerance: 10,
-        depth: 1,
+        terms: within(10, 1),
         calls: &calls,
         ticks: &[0, 1, 2, 3, 4, 5, -1],
     };
@@ -85,28 +97,26 @@ fn print_rise(rt: &HostRuntime, rise: &[Flow]) -> anyhow::Result<()> {
     for work in [8, 7] {
         let calls = [lay(rise, work)];
         let plan = Plan {
-            tolerance: 10,
-            depth: 1,
+            terms: within(10, 1),
             calls: &calls,
             ticks: &[],
         };
         print_plan::<Flow, Matching>(rt, "flow matching", rise, plan)?;
     }
-    print_turn::<Flow, Matching>(rt, "flow matching", 11, 1, rise)
+    print_turn::<Flow, Matching>(rt, "flow matching", within(11, 1), rise)
 }
 
 /// Where nothing is laid, nothing can be struck, and the turn is not full.
 fn print_hill(rt: &HostRuntime, hill: &[Flow]) -> anyhow::Result<()> {
-    print_turn::<Flow, Chord>(rt, "flow chord", 17, 1, hill)?;
-    let calls = [lay(hill, ENOUGH_WORK), Call::Strike, Call::Seal];
+    print_turn::<Flow, Chord>(rt, "flow chord", within(17, 1), hill)?;
+    let calls = [lay(hill, MOST_WORK), Call::Strike, Call::Seal];
     let plan = Plan {
-        tolerance: 16,
-        depth: 1,
+        terms: within(16, 1),
         calls: &calls,
         ticks: &TICKS,
     };
     print_plan::<Flow, Chord>(rt, "flow chord", hill, plan)?;
-    print_turn::<Flow, Chord>(rt, "flow chord", 16, 2, hill)
+    print_turn::<Flow, Chord>(rt, "flow chord", within(16, 2), hill)
 }
 
 fn print_flows(rt: &HostRuntime) -> anyhow::Result<()> {
@@ -116,9 +126,9 @@ fn print_flows(rt: &HostRuntime) -> anyhow::Result<()> {
     let step = flows(rt.alloc(), &[0, 0, 0, 1])?;
     print_rise(rt, &rise)?;
     print_hill(rt, &hill)?;
-    print_turn::<Flow, Chord>(rt, "flow chord", 17, 2, &ridge)?;
-    print_turn::<Flow, Matching>(rt, "flow matching", 1, 0, &hill)?;
-    print_turn::<Flow, Matching>(rt, "flow matching", 1, 0, &step)
+    print_turn::<Flow, Chord>(rt, "flow chord", within(17, 2), &ridge)?;
+    print_turn::<Flow, Matching>(rt, "flow matching", within(1, 0), &hill)?;
+    print_turn::<Flow, Matching>(rt, "flow matching", within(1, 0), &step)
 }
 
 fn print_boxes(rt: &HostRuntime) -> anyhow::Result<()> {
@@ -128,8 +138,8 @@ fn print_boxes(rt: &HostRuntime) -> anyhow::Result<()> {
         right: 64,
     };
     let hill = [zero, top, zero];
-    print_turn::<Branches, Chord>(rt, "box chord", 128, 0, &hill)?;
-    print_turn::<Branches, Chord>(rt, "box chord", 127, 0, &hill)
+    print_turn::<Branches, Chord>(rt, "box chord", within(128, 0), &hill)?;
+    print_turn::<Branches, Chord>(rt, "box chord", within(127, 0), &hill)
 }
 
 fn print_halving(rt: &HostRuntime, a: i64, b: i64) -> anyhow::Result<()> {
@@ -142,8 +152,8 @@ fn print_halving(rt: &HostRuntime, a: i64, b: i64) -> anyhow::Result<()> {
 fn print_limits(rt: &HostRuntime) -> anyhow::Result<()> {
     let at_limit = flows(rt.alloc(), &[0, 2_147_483_648])?;
     let past_limit = flows(rt.alloc(), &[0, 2_147_483_649])?;
-    print_turn::<Flow, Chord>(rt, "flow chord", 1, 0, &at_limit)?;
-    print_turn::<Flow, Chord>(rt, "flow chord", 1, 0, &past_limit)
+    print_turn::<Flow, Chord>(rt, "flow chord", within(1, 0), &at_limit)?;
+    print_turn::<Flow, Chord>(rt, "flow chord", within(1, 0), &past_limit)
 }
 
 /// In the order of `worked` (specs/Cases.antt).

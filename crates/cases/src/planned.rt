@@ -1,49 +1,53 @@
 //! A turn of one curve, planned over a record table and over a card.
-use anyhow::anyhow;
+use anyhow::bail;
 use bezier::reduction::Reduction;
 use card_writer::card_outlet::CardOutlet;
+use curve::limits::MOST_WORK;
 use distance::measure::Distance;
 use leg::leg::{Cell, Leg};
 use outlet::outlet::Outlet;
 use outlet::table::RecordTable;
 use planner::begin::Terms;
-use planner::run::{Course, RunError, Turn, run};
+use planner::run::{Course, Turn, run};
 use planner::sealed::Sealed;
 use std::alloc::Global;
 use std::fmt::Display;
-use turn::answer::Answer;
 use turn::call::Call;
-
-/// As many work points as any curve wants.
-pub const ENOUGH_WORK: usize = 99;
+use turn::refusal::Refusal;
 
 const RECORDS: usize = 16;
 
 /// Room for as many records of any kind.
 const OCTETS: usize = 1024;
 
-/// Calls on a turn that ends at tick 4, and the ticks that it is then asked for if it is sealed.
+/// Calls on a turn, and the ticks that it is then asked for if it is sealed.
 #[derive(Clone, Copy)]
 pub struct Plan<'a, P> {
-    pub tolerance: i64,
-    pub depth: i64,
+    pub terms: Terms,
     pub calls: &'a [Call<'a, P>],
     pub ticks: &'a [i64],
 }
 
 /// As in `; lay accepted`, and `; lay with 7 work points refused 10: too few work points`.
-fn add_answer<P>(text: &mut String, call: &Call<'_, P>, answer: Answer) -> anyhow::Result<()> {
+fn add_answer<P>(
+    text: &mut String,
+    call: &Call<'_, P>,
+    answer: Result<(), Refusal>,
+) -> anyhow::Result<()> {
     match call {
         Call::Lay { work, .. } => {
             text.push_str("; lay")?;
-            if *work != ENOUGH_WORK {
+            if *work != MOST_WORK {
                 write!(*text, " with {work} work points")?;
             }
         }
         Call::Strike => text.push_str("; strike")?,
         Call::Seal => text.push_str("; seal")?,
     }
-    write!(*text, " {answer}")?;
+    match answer {
+        Ok(()) => text.push_str(" accepted")?,
+        Err(refusal) => write!(*text, " {refusal}")?,
+    }
     Ok(())
 }
 
@@ -63,6 +67,7 @@ fn add_legs<P: Distance + Display, R, O: Outlet<P>>(
     sealed: &Sealed<P, R>,
     outlet: &mut O,
 ) -> anyhow::Result<()> {
+    // a sealed turn is listed leg by leg, with the outlet lent for each
     for i in 0..RECORDS {
         match sealed.list::<O>(outlet, i) {
             Ok(Some(leg)) => add_leg(text, &leg)?,
@@ -98,16 +103,7 @@ fn performed<P: Distance, R: Reduction<P>, O: Outlet<P>>(
     plan: Plan<'_, P>,
     outlet: &mut O,
 ) -> anyhow::Result<Course<P, R>> {
-    let terms = Terms {
-        tolerance: plan.tolerance,
-        depth: plan.depth,
-        end: 4,
-    };
-    match run::<P, R, O>(heap, terms, outlet, plan.calls) {
-        Ok(course) => Ok(course),
-        Err(RunError::Refused(refusal)) => Err(anyhow!(format!(in heap; "begin {refusal}")?)),
-        Err(RunError::NoMemory) => Err(anyhow!("out of memory")),
-    }
+    Ok(run::<P, R, O>(heap, plan.terms, outlet, plan.calls)?)
 }
 
 /// The answers of the calls, the legs, and what they tell.
@@ -139,7 +135,7 @@ pub fn shown_by_both<P: Distance + Display, R: Reduction<P>>(
     let mut card = CardOutlet::<P>::start(&mut octets);
     let by_card = shown::<P, R, CardOutlet<P>>(heap, plan, &mut card)?;
     if by_table.as_str() != by_card.as_str() {
-        return Err(anyhow!(format!(in heap; "table and card differ{by_table}, but{by_card}")?));
+        bail!("table and card differ{by_table}, but{by_card}");
     }
     Ok(by_table)
 }

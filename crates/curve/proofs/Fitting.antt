@@ -1,5 +1,6 @@
 -- The cells that the halving of a curve finds: they are the pieces that the program goes through, their legs may be put, and they keep what is promised.
-use Rattle.std.specs.Prelude.{◌≡◌, ℕ, ◌+◌, ◌*◌, ◌≤◌, List, [], ◌∷◌, length, map, Some, None, Option, ◌⊎◌, refl}
+use Rattle.std.specs.Prelude.{◌≡◌, ℕ, ◌+◌, ◌*◌, ◌≤◌, List, [], ◌∷◌, length, map, Some, None, Option, ◌⊎◌, IfOk, refl}
+use Rattle.std.specs.Option.{ok_or}
 use Rattle.std.proofs.Common.{sym, ap, ap₂, subst, ◌∙◌, arith, inl, inr, add-one}
 use Rattle.std.proofs.lemmas.List.{length-map}
 use Rattle.ordinate.specs.Kinds.{InRange, Kind, Lawful}
@@ -23,7 +24,9 @@ use Rattle.curve.specs.Cells.{Allowed, halving, left, right, tested, whole}
 use Rattle.curve.specs.Fewest.{Divisible, Fewest}
 use Rattle.curve.specs.Legs.{Fitted, leg_of, passing}
 use Rattle.curve.specs.Pieces.{Piece, Ready, handed, left_piece, piece, piece_leg, piece_passes, pieces, pieces_tested, right_piece, tally}
-use Rattle.curve.specs.Refusals.{Drawable}
+use Rattle.leg.specs.Reasons.{First, refusal}
+use Rattle.curve.specs.Refusals.{Counted, Drawable, bent}
+use Rattle.curve.specs.declared.refusal.CurveRefusal.TheVariants.{TooBent}
 use Rattle.curve.specs.declared.tally.Tally.{Tally}
 use Rattle.curve.proofs.Counting.{counted}
 use Rattle.curve.proofs.Divisions.{halving_is_fewest}
@@ -72,7 +75,7 @@ module _ {P : Type 0} (K : Kind P) (M : Measure) (R : Rule P) (t D : ℕ) (ps : 
   some None n y e = absurd (cc)
   some (Some cs) n y e = let l : y.legs ≡ length (map of_cell cs) = cc in let k : y.cells ≡ n = cc in (cs, refl, l ∙ length-map cs of_cell, k)
 
-  pub too_bent : None ≡ counted K M R t D (piece whole ps) → ¬ (Divisible D (passing K M R t ps))
+  too_bent : None ≡ counted K M R t D (piece whole ps) → ¬ (Divisible D (passing K M R t ps))
   too_bent e = (halving_is_fewest.nothing D (passing K M R t ps)).0 (none found _ (e ∙ counted_are))
 
   pub record Found (y : Tally) : Type 0 where
@@ -87,10 +90,13 @@ module _ {P : Type 0} (K : Kind P) (M : Measure) (R : Rule P) (t D : ℕ) (ps : 
       let n = halving_is_fewest.tries D (passing K M R t ps) s.0 s.1 in
       record { cells = s.0; is = s.1; legs = s.2; tries = omega arith }
 
-  pub is_fewest : (y : Tally) (f : Found y) → Fewest D (passing K M R t ps) f.cells
+  abbrev pub counted_as : (y : Tally) → Counted K M R t D ps y → Found y
+  counted_as y n = record { cells = n.0; is = n.1.found; legs = n.2; tries = n.3 }
+
+  is_fewest : (y : Tally) (f : Found y) → Fewest D (passing K M R t ps) f.cells
   is_fewest y f = halving_is_fewest.found D (passing K M R t ps) f.cells f.is
 
-  pub divisible : (y : Tally) → Found y → Divisible D (passing K M R t ps)
+  divisible : (y : Tally) → Found y → Divisible D (passing K M R t ps)
   divisible y f = (f.cells, (is_fewest y f).division)
 
   pub same_number : (y : Tally) (f : Found y) (cs : List Cell) → Fewest D (passing K M R t ps) cs → length cs ≡ y.legs
@@ -109,6 +115,11 @@ module _ {P : Type 0} (K : Kind P) (M : Measure) (R : Rule P) (t D : ℕ) (ps : 
     fitted y f =
         let w = is_fewest y f in
         record { fewest = w; near = each_map (Allowed D (passing K M R t ps)) (λ c. CellNear K M R t ps c.depth c.index) near f.cells w.division.allowed; found = f.is }
+
+    -- what a count answers
+    pub judged : (o : Option Tally) → o ≡ counted K M R t D (piece whole ps) → First (bent K M R t D ps ∷ []) (refusal (ok_or o TooBent)) × IfOk (ok_or o TooBent) (Counted K M R t D ps)
+    judged None e = (inl (TooBent, (too_bent e, refl), refl), tt)
+    judged (Some y) e = let f = told y e in (inr ((λ r h. h.0 (divisible y f)), refl), (f.cells, fitted y f, f.legs, f.tries))
 
     in_range : (p : P) → Reaches K (4 * M.limit) p → InRange K p
     in_range p r i h = rw (measured.least, measured.greatest) (r i h)

@@ -1,8 +1,8 @@
 pub mod Pieces
 pub mod Moments
 pub mod Divisions
-pub mod Halves
 pub mod Counting
 pub mod Rows
 pub mod Handing
 pub mod Fitting
+pub mod Exits

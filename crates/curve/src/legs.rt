@@ -2,11 +2,13 @@
 ghost use Rattle.std.specs.Prelude.{◌≡◌, ◌≤◌, [], ◌∷◌, length, IfOk};
 ghost use Rattle.outlet.specs.Outlets.{room};
 ghost use Rattle.leg.specs.Reasons.{First, refusal as refusal_of};
-ghost use Rattle.curve.specs.Refusals.{Counted, Drawable, PutLegs, bent, count_reasons, crowded, put_reasons, work_after, work_wanted};
-ghost use Rattle.curve.specs.Pieces.{piece, piece_leg, pieces, pieces_tested, tally, Ready, handed};
+ghost use Rattle.curve.specs.Refusals.{Counted, PutLegs, bent, count_reasons, crowded, put_reasons, work_after, work_wanted};
+ghost use Rattle.curve.specs.Pieces.{piece, piece_leg, pieces, Ready, handed};
 ghost use Rattle.curve.specs.Cells.{whole};
 
 use crate::accuracy::Accuracy;
+use crate::cell::WHOLE;
+use crate::drawn::Drawn;
 use crate::points::check_work;
 use crate::refusal::CurveRefusal;
 use crate::row::{count_row, put_row};
@@ -15,65 +17,57 @@ use crate::tally::Tally;
 use crate::work::wipe;
 use bezier::reduction::Reduction;
 use distance::measure::Distance;
-use leg::leg::Cell;
 use outlet::outlet::Outlet;
+use std::marker::PhantomData;
 
-/// The cell that is the whole curve.
-const WHOLE: Cell = Cell { depth: 0, index: 0 };
+// Each of these asks for enough work points: a type that kept the fact could not lend them on to be written.
 
-/// Counts the legs of a curve whose points may be drawn, with enough work points; nothing where it is too bent.
+/// Counts the legs of a curve, with enough work points.
 fn count_begun<P: Distance, R: Reduction<P>>(
-    points: &[P],
-    accuracy: Accuracy,
+    curve: &Drawn<'_, P, R>,
     work: &mut [P],
-) -> Option<Tally>
-    requires drawn { Drawable P.Ordinate.kind P.Distance.measure R.Reduction.rule points.now }
-    requires rows { work_wanted P.Ordinate.kind P.Distance.measure R.Reduction.rule accuracy.depth points.now ≤ length work.old }
-    ensures { result ≡ tally (pieces P.Ordinate.kind P.Distance.measure R.Reduction.rule accuracy.tolerance accuracy.depth (piece whole points.now)) (pieces_tested P.Ordinate.kind P.Distance.measure R.Reduction.rule accuracy.tolerance accuracy.depth (piece whole points.now)) }
+) -> Result<Tally, CurveRefusal>
+    requires { work_wanted P.Ordinate.kind P.Distance.measure R.Reduction.rule curve.now.accuracy.depth curve.now.points.now ≤ length work.old }
+    ensures first { First (bent P.Ordinate.kind P.Distance.measure R.Reduction.rule curve.now.accuracy.tolerance curve.now.accuracy.depth curve.now.points.now ∷ []) (refusal_of result) }
+    ensures value { IfOk result (λ y. Counted P.Ordinate.kind P.Distance.measure R.Reduction.rule curve.now.accuracy.tolerance curve.now.accuracy.depth curve.now.points.now y) }
 {
-    let row = points.len();
-    work[..row].copy_from_slice(points);
-    count_row::<P, R>(work, row, WHOLE, accuracy)
+    let row = curve.points.len();
+    work[..row].copy_from_slice(curve.points);
+    count_row::<P, R>(work, row, WHOLE, curve.accuracy).ok_or(CurveRefusal::TooBent)
 }
 
 /// Puts the legs of a curve that is known to have them, with room for all.
 fn put_begun<P: Distance, R: Reduction<P>, O: Outlet<P>>(
-    points: &[P],
-    accuracy: Accuracy,
+    curve: &Drawn<'_, P, R>,
     span: Span,
     work: &mut [P],
     outlet: &mut O,
 )
-    requires drawn { Drawable P.Ordinate.kind P.Distance.measure R.Reduction.rule points.now }
-    requires rows { work_wanted P.Ordinate.kind P.Distance.measure R.Reduction.rule accuracy.depth points.now ≤ length work.old }
-    requires ready { Ready P.Ordinate.kind (piece_leg P.Ordinate.kind R.Reduction.rule span.from span.ticks) (pieces P.Ordinate.kind P.Distance.measure R.Reduction.rule accuracy.tolerance accuracy.depth (piece whole points.now)) (O.Outlet.contents outlet.old) }
-    ensures { O.Outlet.contents outlet.new ≡ handed (piece_leg P.Ordinate.kind R.Reduction.rule span.from span.ticks) (pieces P.Ordinate.kind P.Distance.measure R.Reduction.rule accuracy.tolerance accuracy.depth (piece whole points.now)) (O.Outlet.contents outlet.old) }
+    requires rows { work_wanted P.Ordinate.kind P.Distance.measure R.Reduction.rule curve.now.accuracy.depth curve.now.points.now ≤ length work.old }
+    requires ready { Ready P.Ordinate.kind (piece_leg P.Ordinate.kind R.Reduction.rule span.from span.ticks) (pieces P.Ordinate.kind P.Distance.measure R.Reduction.rule curve.now.accuracy.tolerance curve.now.accuracy.depth (piece whole curve.now.points.now)) (O.Outlet.contents outlet.old) }
+    ensures { O.Outlet.contents outlet.new ≡ handed (piece_leg P.Ordinate.kind R.Reduction.rule span.from span.ticks) (pieces P.Ordinate.kind P.Distance.measure R.Reduction.rule curve.now.accuracy.tolerance curve.now.accuracy.depth (piece whole curve.now.points.now)) (O.Outlet.contents outlet.old) }
 {
-    let row = points.len();
-    work[..row].copy_from_slice(points);
-    put_row::<P, R, O>(work, row, WHOLE, accuracy, span, outlet);
+    let row = curve.points.len();
+    work[..row].copy_from_slice(curve.points);
+    put_row::<P, R, O>(work, row, WHOLE, curve.accuracy, span, outlet);
 }
 
 /// Counts, compares with what is free, and puts.
 fn lay_begun<P: Distance, R: Reduction<P>, O: Outlet<P>>(
-    points: &[P],
-    accuracy: Accuracy,
+    curve: &Drawn<'_, P, R>,
     span: Span,
     work: &mut [P],
     outlet: &mut O,
 ) -> Result<Tally, CurveRefusal>
-    requires drawn { Drawable P.Ordinate.kind P.Distance.measure R.Reduction.rule points.now }
-    requires rows { work_wanted P.Ordinate.kind P.Distance.measure R.Reduction.rule accuracy.depth points.now ≤ length work.old }
-    ensures first { First (bent P.Ordinate.kind P.Distance.measure R.Reduction.rule accuracy.tolerance accuracy.depth points.now ∷ crowded P.Ordinate.kind P.Distance.measure R.Reduction.rule accuracy.tolerance accuracy.depth points.now (room (O.Outlet.contents outlet.old)) ∷ []) (refusal_of result) }
-    ensures puts { PutLegs P.Ordinate.kind P.Distance.measure R.Reduction.rule accuracy.tolerance accuracy.depth span.from span.ticks points.now result (O.Outlet.contents outlet.old) (O.Outlet.contents outlet.new) }
+    requires { work_wanted P.Ordinate.kind P.Distance.measure R.Reduction.rule curve.now.accuracy.depth curve.now.points.now ≤ length work.old }
+    ensures first { First (bent P.Ordinate.kind P.Distance.measure R.Reduction.rule curve.now.accuracy.tolerance curve.now.accuracy.depth curve.now.points.now ∷ crowded P.Ordinate.kind P.Distance.measure R.Reduction.rule curve.now.accuracy.tolerance curve.now.accuracy.depth curve.now.points.now (room (O.Outlet.contents outlet.old)) ∷ []) (refusal_of result) }
+    ensures puts { PutLegs P.Ordinate.kind P.Distance.measure R.Reduction.rule curve.now.accuracy.tolerance curve.now.accuracy.depth span.from span.ticks curve.now.points.now result (O.Outlet.contents outlet.old) (O.Outlet.contents outlet.new) }
 {
-    let Some(tally) = count_begun::<P, R>(points, accuracy, work) else {
-        return Err(CurveRefusal::TooBent);
-    };
+    let tally = count_begun(curve, work)?;
     if outlet.free() < tally.legs {
         return Err(CurveRefusal::TooManyLegs);
     }
-    put_begun::<P, R, O>(points, accuracy, span, work, outlet);
+    put_begun(curve, span, work, outlet);
     Ok(tally)
 }
 
@@ -88,12 +82,14 @@ pub fn count<P: Distance, R: Reduction<P>>(
     ensures work { work.new ≡ work_after P.Ordinate.kind P.Distance.measure R.Reduction.rule result (work_wanted P.Ordinate.kind P.Distance.measure R.Reduction.rule accuracy.depth points.now) work.old }
 {
     let used = check_work::<P, R>(points, accuracy, work.len())?;
-    let answer = count_begun::<P, R>(points, accuracy, &mut work[..used]);
-    wipe(work, used);
-    match answer {
-        Some(tally) => Ok(tally),
-        None => Err(CurveRefusal::TooBent),
-    }
+    let curve = Drawn::<P, R> {
+        points,
+        accuracy,
+        reduction: PhantomData,
+    };
+    let answer = count_begun(&curve, &mut work[..used]);
+    wipe(&mut work[..used]);
+    answer
 }
 
 /// Puts the legs of a curve into the outlet, in order; a refused curve puts none.
@@ -109,7 +105,12 @@ pub fn put<P: Distance, R: Reduction<P>, O: Outlet<P>>(
     ensures work { work.new ≡ work_after P.Ordinate.kind P.Distance.measure R.Reduction.rule result (work_wanted P.Ordinate.kind P.Distance.measure R.Reduction.rule accuracy.depth points.now) work.old }
 {
     let used = check_work::<P, R>(points, accuracy, work.len())?;
-    let answer = lay_begun::<P, R, O>(points, accuracy, span, &mut work[..used], outlet);
-    wipe(work, used);
+    let curve = Drawn::<P, R> {
+        points,
+        accuracy,
+        reduction: PhantomData,
+    };
+    let answer = lay_begun(&curve, span, &mut work[..used], outlet);
+    wipe(&mut work[..used]);
     answer
 }

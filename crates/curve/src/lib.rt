@@ -3,8 +3,10 @@
 
 pub mod accuracy;
 mod cell;
+mod drawn;
 pub mod fewest;
 pub mod legs;
+pub mod limits;
 pub mod points;
 pub mod refusal;
 mod row;

@@ -15,10 +15,7 @@ pub fn check_points<P: Distance, R: Reduction<P>>(points: &[P]) -> Result<(), Cu
     ensures first { First (point_reasons P.Ordinate.kind P.Distance.measure R.Reduction.rule points.now) (refusal_of result) }
 {
     let count = points.len();
-    if count <= R::lowest() {
-        return Err(CurveRefusal::PointCount);
-    }
-    if count > 9 {
+    if count <= R::lowest() || count > 9 {
         return Err(CurveRefusal::PointCount);
     }
     match first_beyond(points) {
@@ -36,9 +33,7 @@ pub(crate) fn check_work<P: Distance, R: Reduction<P>>(
     ensures begins { IfOk result (λ used. Drawable P.Ordinate.kind P.Distance.measure R.Reduction.rule points.now × (used ≡ work_wanted P.Ordinate.kind P.Distance.measure R.Reduction.rule accuracy.depth points.now) × (used ≤ work)) }
     ensures first { First (early_reasons P.Ordinate.kind P.Distance.measure R.Reduction.rule accuracy.depth points.now work) (refusal_of result) }
 {
-    if let Err(refusal) = check_points::<P, R>(points) {
-        return Err(refusal);
-    }
+    check_points::<P, R>(points)?;
     let wanted = (accuracy.depth() as usize + 1) * points.len();
     if work < wanted {
         return Err(CurveRefusal::ShortWork);

@@ -1,15 +1,13 @@
 //! Work points: lent by the caller, used by the halving, and left at zero.
-ghost use Rattle.std.specs.Prelude.{◌≡◌, ◌≤◌, ◌++◌, length, drop, replicate};
+ghost use Rattle.std.specs.Prelude.{◌≡◌, length, replicate};
 ghost use Rattle.distance.specs.Measures.{blank};
 
 use distance::measure::Distance;
 
-/// Sets the first `used` work points to zero.
-pub(crate) fn wipe<P: Distance>(work: &mut [P], used: usize)
-    requires { used ≤ length work.old }
-    ensures { work.new ≡ replicate used (blank P.Ordinate.kind) ++ drop used work.old }
+/// Sets all work points to zero.
+pub(crate) fn wipe<P: Distance>(work: &mut [P])
+    ensures { work.new ≡ replicate (length work.old) (blank P.Ordinate.kind) }
 {
-    for i in 0..used {
-        work[i] = P::zero();
-    }
+    // Not `fill`: it asks for a clone that cannot fail, which a kind's points need not promise.
+    work.fill_with(|| P::zero());
 }

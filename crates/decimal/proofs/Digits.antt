@@ -1,5 +1,5 @@
 -- Decimals of at most ten digits, digit by digit.
-use Rattle.std.proofs.Common.{◌≡◌, ℕ, zero, suc, ◌+◌, ◌-◌, ◌*◌, ◌^◌, ◌<◌, ◌≤◌, List, ◌∷◌, length, get_or, take, ℤ, pos, negsuc, decimal, sym, refl, ap, ◌∙◌, subst, inl, inr, le_trans, arith, length-take-le, rules}
+use Rattle.std.proofs.Common.{◌≡◌, ℕ, zero, suc, ◌+◌, ◌-◌, ◌*◌, ◌^◌, ◌<◌, ◌≤◌, List, length, get_or, take, ℤ, pos, negsuc, decimal, sym, refl, ap, ◌∙◌, subst, inl, inr, le_trans, arith, length-take-le, rules}
 use lib.Seq.{take-length}
 use native.Mathlib.Nat.{pow-le-pow_right}
 use Rattle.std.specs.Int.{IsInRange}
@@ -18,9 +18,6 @@ value_of_digit c l h = search rules
 pub record SoFar (text : List ℕ) (i n : ℕ) : Type 0 where
   pub digits : AllDigits 10 (take i text)
   pub value : n ≡ digits_value 10 (take i text)
-
-pub none_yet : (text : List ℕ) → SoFar text 0 0
-none_yet text = record { digits = tt; value = refl }
 
 bounded : (text : List ℕ) (i n : ℕ) → SoFar text i n → i ≤ length text → n < 10 ^ i
 bounded text i n s within =
@@ -69,16 +66,7 @@ text_natural n h =
     plain zero h e = ap length (decimal_digit 0 (omega arith))
     plain (suc m) h e = absurd (omega (arith, first_decimal (suc m) (omega arith) (omega arith)))
 
--- What may be typed for a number is the text of one.
-pub number_shape : (text : List ℕ) → IsNumber text → (z : ℤ) × HasFewDigits z × (text ≡ text_of z)
-number_shape text (inl h) = let t = natural_text text h in (pos (digits_value 10 text), t.1, t.0)
-number_shape text (inr (ds, e, h, nonzero)) = of_size (digits_value 10 ds) (natural_text ds h)
-  where
-    of_size : (n : ℕ) → (ds ≡ decimal n) × (n < 10 ^ 10) → (z : ℤ) × HasFewDigits z × (text ≡ text_of z)
-    of_size zero t = absurd (nonzero (t.0 ∙ decimal_digit 0 (omega arith)))
-    of_size (suc m) t = (negsuc m, t.1, e ∙ ap (λ l. 45 ∷ l) t.0)
-
--- and the text of each number of few digits may be typed
+-- the text of each number of few digits may be typed
 pub shape_number : (z : ℤ) → HasFewDigits z → IsNumber (text_of z)
 shape_number (pos n) h = inl (text_natural n h)
 shape_number (negsuc n) h = inr (decimal (suc n), refl, text_natural (suc n) h, λ e. absurd (omega (arith, first_decimal (suc n) (omega arith) (omega arith), ap (λ l. get_or l 0 0) e)))

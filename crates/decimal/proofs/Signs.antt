@@ -1,18 +1,20 @@
 -- Numbers with a minus and without.
-use Rattle.std.proofs.Common.{◌≡◌, ◌≢◌, ℕ, zero, suc, ◌-◌, ◌^◌, ◌<◌, List, ◌∷◌, length, get_or, take, drop, ℤ, pos, negsuc, ◌-ℤ◌, decimal, sym, refl, ap, ◌∙◌, subst, inl, inr, arith, w64, SFits, to_z, of_z, rules}
+use Rattle.std.proofs.Common.{◌≡◌, ◌≢◌, ℕ, zero, suc, ◌+◌, true, false, Option, MatchOption, ◌^◌, ◌<◌, List, [], ◌∷◌, length, get_or, take, drop, ℤ, pos, negsuc, ◌-ℤ◌, decimal, sym, refl, ap, ◌∙◌, subst, inl, inr, arith, w64, SFits, to_z, of_z, rules}
 use Rattle.std.proofs.lemmas.Int.{ints, to_z-of_z}
-use Rattle.std.proofs.lemmas.Slice.{first_rest}
+use Rattle.std.proofs.lemmas.Slice.Eq.{strip_prefix_is}
+use Rattle.std.specs.Borrow.{Bor}
+use Rattle.std.specs.Cmp.{unsigned_Decides}
+use Rattle.std.specs.Str.{bytes_eq}
 use Rattle.std.proofs.lemmas.Fmt.{decimal_digit}
 use Rattle.std.specs.Str.Parse.{digits_value}
 use Rattle.decimal.specs.Numbers.{text_of, HasFewDigits, IsNatural, IsNumber}
 use Rattle.decimal.proofs.Digits.{natural_text, shape_number}
 
--- the octets behind the first
-abbrev pub rest_of : List ℕ → List ℕ
-rest_of text = take (length text - 1) (drop 1 text)
-
-pub begins : (text : List ℕ) → 0 < length text → get_or text 0 0 ≡ 45 → text ≡ 45 ∷ rest_of text
-begins text some minus = first_rest text 0 some ∙ ap (λ b. b ∷ rest_of text) minus
+-- what `strip_prefix` tells of a minus
+pub stripped : (text : List ℕ) (r : Option (Bor (List ℕ)))
+    → MatchOption r (bytes_eq (take 1 text) (45 ∷ []) ≡ false) (λ x. (bytes_eq (take 1 text) (45 ∷ []) ≡ true) × (x.now ≡ drop 1 text) × (length x.now + 1 ≡ length text))
+    → MatchOption r ((rest : List ℕ) → text ≢ 45 ∷ rest) (λ x. text ≡ 45 ∷ x.now)
+stripped text r told = strip_prefix_is unsigned_Decides text (45 ∷ []) r told
 
 tail_same : (b c : ℕ) (x y : List ℕ) → b ∷ x ≡ c ∷ y → x ≡ y
 tail_same b c x y e = cc
@@ -21,9 +23,9 @@ tail_same b c x y e = cc
 pub no_text : (text : List ℕ) → (IsNumber text → ⊥) → (z : ℤ) → HasFewDigits z → text ≢ text_of z
 no_text text none z few e = none (subst IsNumber (sym e) (shape_number z few))
 
-pub bare_none : (text : List ℕ) → (0 < length text → get_or text 0 0 ≢ 45) → (IsNatural text → ⊥) → IsNumber text → ⊥
+pub bare_none : (text : List ℕ) → ((rest : List ℕ) → text ≢ 45 ∷ rest) → (IsNatural text → ⊥) → IsNumber text → ⊥
 bare_none text bare none (inl h) = none h
-bare_none text bare none (inr (ds, e, h, nonzero)) = bare (omega (arith, ap length e)) (ap (λ l. get_or l 0 0) e)
+bare_none text bare none (inr (ds, e, h, nonzero)) = bare ds e
 
 not_bare : (text rest : List ℕ) → text ≡ 45 ∷ rest → IsNatural text → ⊥
 not_bare text rest e h = let first = h.each 0 0 (omega (arith, ap length e)) in omega (arith, first.0, ap (λ l. get_or l 0 0) e)

@@ -18,6 +18,7 @@ fn natural(text: &[u8]) -> Option<u64>
     if text[0] == b'0' && text.len() > 1 {
         return None;
     }
+    // A loop and no `fold`: that each sum fits is known only by how many digits stand before it.
     let mut number = 0;
     for octet in text {
         if !octet.is_ascii_digit() {
@@ -35,10 +36,10 @@ pub fn read_number(text: &[u8]) -> Option<i64>
         (λ z. HasFewDigits z × (text.now ≡ text_of z)) }
     ensures shape { IsSome result ↔ IsNumber text.now }
 {
-    if text.len() == 0 || text[0] != b'-' {
+    let Some(digits) = text.strip_prefix(b"-") else {
         return Some(natural(text)? as i64);
-    }
-    let size = natural(&text[1..])?;
+    };
+    let size = natural(digits)?;
     if size == 0 {
         return None;
     }

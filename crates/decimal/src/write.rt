@@ -5,7 +5,7 @@ ghost use Rattle.decimal.specs.Places.{Written};
 use itoa::{Buffer, Integer};
 
 /// Writes the number's text into the buffer, from `place` on, and answers how many octets that is.
-/// Where there is no room for the text, nothing is written.
+/// Where there is no room for the text, nothing is written. The whole buffer is lent, since the contract says what is left of it.
 pub fn write_number<I: Integer>(number: I, buffer: &mut [u8], place: usize) -> Option<usize>
     ensures { Written (I.text number) place buffer.old result buffer.new }
 {

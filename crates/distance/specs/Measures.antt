@@ -1,6 +1,7 @@
 -- What a kind of ordinate adds to its points so that curves of them can be drawn: how vectors are measured, and how far points may lie from zero.
 use Rattle.std.specs.Prelude.{◌≡◌, ℕ, ◌*◌, ◌<◌, ◌≤◌, Bool, ◌&&◌, T, ◌↔◌, List, length, ℤ, pos, negsuc, ◌+ℤ◌, neg_ℤ, int_le, slice_index_or}
 use Rattle.ordinate.specs.Kinds.{Kind, Between}
+pub use Rattle.ordinate.specs.Kinds.{blank}
 use Rattle.distance.specs.Vectors.{◌·◌, Vector, origin, ◌⊕◌, opposite, ◌⊖◌, ◌⊙◌, half}
 
 pub record Measure : Type 0 where
@@ -37,16 +38,12 @@ pub record LawfulMeasure {P : Type 0} (K : Kind P) (M : Measure) : Type 0 where
 
 -- ---- points
 module _ {P : Type 0} (K : Kind P) where
-  -- the point whose coordinates are all 0
-  abbrev pub blank : P
-  blank = K.made origin
-
   -- the halving of two points
   abbrev pub halfway : P → P → P
   halfway a b = K.made (half (K.coordinate a) (K.coordinate b))
 
   abbrev pub point : List P → ℕ → P
-  point ps j = slice_index_or ps j blank
+  point ps j = slice_index_or ps j (blank K)
 
   -- Every coordinate lies from -c to c.
   abbrev pub Reaches : ℕ → P → Type 0

@@ -6,7 +6,7 @@ use crate::coordinate::is_bounded;
 use crate::measure::Distance;
 use ordinate::branches::Branches;
 
-/// C, in grains.
+/// C, in grains. Each kind states its own.
 const LIMIT: i64 = 2_147_483_648;
 
 /// A: each branch is off by at most one half, so both together by two.
@@ -23,28 +23,6 @@ impl Distance for Branches {
 
     fn allowance() -> u32 {
         ALLOWANCE
-    }
-
-    fn coordinate(self, i: usize) -> i64 {
-        match i {
-            0 => self.left,
-            1 => self.right,
-            _ => 0,
-        }
-    }
-
-    fn with_coordinate(self, i: usize, value: i64) -> Branches {
-        match i {
-            0 => Branches {
-                left: value,
-                right: self.right,
-            },
-            1 => Branches {
-                left: self.left,
-                right: value,
-            },
-            _ => self,
-        }
     }
 
     fn is_within(self, r: i64) -> bool {

@@ -6,7 +6,7 @@ use crate::coordinate::is_bounded;
 use crate::measure::Distance;
 use ordinate::flow::Flow;
 
-/// C, in grains.
+/// C, in grains. Each kind states its own.
 const LIMIT: i64 = 2_147_483_648;
 
 /// A: one coordinate is off by at most one half.
@@ -23,14 +23,6 @@ impl Distance for Flow {
 
     fn allowance() -> u32 {
         ALLOWANCE
-    }
-
-    fn coordinate(self, i: usize) -> i64 {
-        if i == 0 { self.value } else { 0 }
-    }
-
-    fn with_coordinate(self, i: usize, value: i64) -> Flow {
-        if i == 0 { Flow { value } } else { self }
     }
 
     fn is_within(self, r: i64) -> bool {

@@ -1,5 +1,5 @@
 //! What a kind of ordinate offers beyond its points: a distance.
-ghost use Rattle.std.specs.Prelude.{◌≡◌, ℕ, ◌<◌, pos, ◌≢◌};
+ghost use Rattle.std.specs.Prelude.{◌≡◌, pos};
 ghost use Rattle.ordinate.specs.Kinds.{Kind};
 ghost use Rattle.distance.specs.Measures.{Measure, LawfulMeasure};
 
@@ -16,15 +16,6 @@ pub trait Distance: Ordinate {
     /// A: what one rounding may cost, in halves.
     fn allowance() -> u32
         ensures { result ≡ measure.allowance };
-
-    /// Coordinate `i`; 0 where there is none.
-    fn coordinate(self, i: usize) -> i64
-        ensures { result ≡ Self.Ordinate.kind.coordinate self i };
-
-    /// This point with another value as coordinate `i`; the same point where it has no such coordinate.
-    fn with_coordinate(self, i: usize, value: i64) -> Self
-        ensures here { i < Self.Ordinate.kind.dimension → Self.Ordinate.kind.coordinate result i ≡ value }
-        ensures others { (j : ℕ) → (j ≢ i) → Self.Ordinate.kind.coordinate result j ≡ Self.Ordinate.kind.coordinate self j };
 
     /// Whether this vector is within `r`.
     fn is_within(self, r: i64) -> bool

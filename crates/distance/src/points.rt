@@ -10,6 +10,7 @@ pub fn halved<P: Distance>(a: P, b: P) -> P
     ensures { result ≡ halfway P.Ordinate.kind a b }
 {
     let mut middle = a;
+    // By index, as a point is no slice of its coordinates.
     for i in 0..P::dimension() {
         middle = middle.with_coordinate(i, half(a.coordinate(i), b.coordinate(i)));
     }
@@ -21,15 +22,10 @@ pub fn is_drawable<P: Distance>(p: P) -> bool
     ensures { IsTrue result ↔ Reaches P.Ordinate.kind P.Distance.measure.limit p }
 {
     let limit = P::limit();
-    for i in 0..P::dimension() {
-        if !is_bounded(p.coordinate(i), limit) {
-            return false;
-        }
-    }
-    true
+    (0..P::dimension()).all(|i| is_bounded(p.coordinate(i), limit))
 }
 
-/// The place of the first point that has a coordinate beyond -C or C.
+/// The place of the first point that has a coordinate beyond -C or C. It stays a loop over the points with their index, as the project fixes for this place.
 pub fn first_beyond<P: Distance>(points: &[P]) -> Option<usize>
     ensures { MatchOption result (Inside P.Ordinate.kind P.Distance.measure.limit points.now) (λ j. Beyond P.Ordinate.kind P.Distance.measure.limit points.now j) }
 {

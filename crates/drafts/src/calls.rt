@@ -1,15 +1,15 @@
 //! The calls, and their answers in print.
-use crate::line::{Call, Change, Drawn};
-use anyhow::anyhow;
+use crate::line::{Call, Change};
+use anyhow::bail;
 use bezier::reduction::Reduction;
 use distance::measure::Distance;
 use outlet::outlet::Outlet;
-use planner::draft::{Draft, Refused};
+use planner::draft::Draft;
 use planner::run::Turn;
 use planner::sealed::Sealed;
 use script::shown::{add_point, leg_text};
 use std::alloc::{AllocError, Global};
-use turn::answer::Answer;
+use turn::call;
 use turn::refusal::Refusal;
 
 /// As in `refused 11`, and `refused 6 at point 3`.
@@ -24,6 +24,7 @@ pub fn print_refusal(rt: &HostRuntime, refusal: Refusal) -> anyhow::Result<()> {
 /// Work points as they may be lent: none of them zero, so that any that are not used are seen.
 fn used_points<P: Distance>(heap: Global, n: usize) -> Result<Vec<P>, AllocError> {
     let mut point = P::zero();
+    // by index, as a point is no slice of its coordinates
     for i in 0..P::dimension() {
         point = point.with_coordinate(i, -77);
     }
@@ -40,101 +41,45 @@ fn print_work<P: Distance>(rt: &HostRuntime, work: &[P]) -> anyhow::Result<()> {
     Ok(())
 }
 
-/// What a call on a draft comes to.
-#[derive(Drop)]
-struct Made<P, R> {
-    answer: Answer,
-    turn: Turn<P, R>,
-}
-
-/// What is left where a call is refused.
-fn refused<P, R>(refused: Refused<P, R>) -> Made<P, R> {
-    Made {
-        answer: Answer::Refused(refused.refusal),
-        turn: Turn::Draft(refused.draft),
-    }
-}
-
-fn accepted<P, R>(draft: Draft<P, R>) -> Made<P, R> {
-    Made {
-        answer: Answer::Accepted,
-        turn: Turn::Draft(draft),
-    }
-}
-
-fn lay<P: Distance, R: Reduction<P>, O: Outlet<P>>(
-    draft: Draft<P, R>,
-    outlet: &mut O,
-    drawn: &Drawn<P>,
-    work: &mut [P],
-) -> Made<P, R> {
-    match draft.lay::<O>(outlet, &drawn.points, drawn.ticks, work) {
-        Ok(draft) => accepted(draft),
-        Err(error) => refused(error),
-    }
-}
-
-fn strike<P: Distance, R: Reduction<P>, O: Outlet<P>>(
-    draft: Draft<P, R>,
-    outlet: &mut O,
-) -> Made<P, R> {
-    match draft.strike::<O>(outlet) {
-        Ok(draft) => accepted(draft),
-        Err(error) => refused(error),
-    }
-}
-
-fn seal<P: Distance, R: Reduction<P>, O: Outlet<P>>(
-    draft: Draft<P, R>,
-    outlet: &mut O,
-) -> Made<P, R> {
-    match draft.seal::<O>(outlet) {
-        Ok(sealed) => Made {
-            answer: Answer::Accepted,
-            turn: Turn::Sealed(sealed),
-        },
-        Err(error) => refused(error),
-    }
-}
-
-fn print_answer(rt: &HostRuntime, answer: Answer) -> anyhow::Result<()> {
-    match answer.refusal() {
-        Some(refusal) => print_refusal(rt, refusal)?,
-        None => println!(rt; "accepted")?,
-    }
-    Ok(())
-}
-
-/// Lays the span, and prints the answer and then the work points as they are left.
-fn make_lay<P: Distance, R: Reduction<P>, O: Outlet<P>>(
+/// Makes the call with these work points lent, and prints its answer.
+fn make_call<P: Distance, R: Reduction<P>, O: Outlet<P>>(
     rt: &HostRuntime,
     draft: Draft<P, R>,
     outlet: &mut O,
-    drawn: &Drawn<P>,
+    call: &call::Call<'_, P>,
+    work: &mut [P],
 ) -> anyhow::Result<Turn<P, R>> {
-    let mut work = used_points::<P>(rt.alloc(), drawn.work)?;
-    let made = lay::<P, R, O>(draft, outlet, drawn, &mut work);
-    print_answer(rt, made.answer)?;
-    print_work(rt, &work)?;
-    Ok(made.turn)
+    let (turn, answer) = draft.make::<O>(outlet, call, work);
+    match answer {
+        Ok(()) => println!(rt; "accepted")?,
+        Err(refusal) => print_refusal(rt, refusal)?,
+    }
+    Ok(turn)
 }
 
+/// A lay is followed by the work points as they are left.
 fn make_on_draft<P: Distance, R: Reduction<P>, O: Outlet<P>>(
     rt: &HostRuntime,
     draft: Draft<P, R>,
     outlet: &mut O,
     call: Call<P>,
 ) -> anyhow::Result<Turn<P, R>> {
-    let made = match call {
-        Call::Lay(drawn) => return make_lay::<P, R, O>(rt, draft, outlet, &drawn),
-        Call::Strike => strike::<P, R, O>(draft, outlet),
-        Call::Seal => seal::<P, R, O>(draft, outlet),
-        Call::Tell(_) | Call::List(_) => {
-            return Err(anyhow!("a draft is neither told nor listed"));
+    match call {
+        Call::Lay(drawn) => {
+            let mut work = used_points::<P>(rt.alloc(), drawn.work)?;
+            let lay = call::Call::Lay {
+                points: &drawn.points,
+                ticks: drawn.ticks,
+                work: drawn.work,
+            };
+            let turn = make_call::<P, R, O>(rt, draft, outlet, &lay, &mut work)?;
+            print_work(rt, &work)?;
+            Ok(turn)
         }
-    };
-    print_answer(rt, made.answer)?;
-    Ok(made.turn)
+        Call::Strike => make_call::<P, R, O>(rt, draft, outlet, &call::Call::Strike, &mut []),
+        Call::Seal => make_call::<P, R, O>(rt, draft, outlet, &call::Call::Seal, &mut []),
+        Call::Tell(_) | Call::List(_) => bail!("a draft is neither told nor listed"),
+    }
 }
 
 fn make_on_sealed<P: Distance, R: Reduction<P>, O: Outlet<P>>(
@@ -157,9 +102,7 @@ fn make_on_sealed<P: Distance, R: Reduction<P>, O: Outlet<P>>(
             Ok(None) => println!(rt; "nothing")?,
             Err(refusal) => print_refusal(rt, refusal)?,
         },
-        Call::Lay(_) | Call::Strike | Call::Seal => {
-            return Err(anyhow!("the turn is sealed"));
-        }
+        Call::Lay(_) | Call::Strike | Call::Seal => bail!("the turn is sealed"),
     }
     Ok(())
 }

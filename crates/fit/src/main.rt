@@ -4,14 +4,15 @@
 mod drawing;
 mod request;
 
-use crate::drawing::{Drawing, Kind, Legs};
+use crate::drawing::Drawing;
 use crate::request::Request;
-use anyhow::anyhow;
+use anyhow::Context;
 use bezier::chord::Chord;
 use bezier::matching::Matching;
 use bezier::reduction::Reduction;
 use curve::accuracy::Accuracy;
 use curve::legs::put;
+use curve::limits::{MOST_LEGS, MOST_WORK};
 use curve::refusal::CurveRefusal;
 use curve::span::Span;
 use curve::tally::Tally;
@@ -19,8 +20,9 @@ use distance::measure::Distance;
 use leg::leg::{Cell, Leg};
 use ordinate::branches::Branches;
 use ordinate::flow::Flow;
-use outlet::outlet::Outlet;
 use outlet::table::RecordTable;
+use plan_text::form::{Kind, Legs};
+use program::exit_code;
 use std::env;
 use std::fmt::Display;
 use std::process::ExitCode;
@@ -29,12 +31,6 @@ const USAGE: &str = "usage: fit KIND REDUCTION TOLERANCE DEPTH [COORDINATE...]
 Prints the legs that a curve takes: KIND is flow or box, REDUCTION is chord or
 matching. A point of a flow has one coordinate, a point of a box two, left before
 right.";
-
-/// A curve that may be halved ten times comes to no more legs.
-const MOST_LEGS: usize = 1024;
-
-/// A row for each depth from 0 to 10, for nine points at the most.
-const MOST_WORK: usize = 11 * 9;
 
 fn plural(number: usize) -> &'static str {
     if number == 1 { "" } else { "s" }
@@ -59,13 +55,11 @@ fn print_leg<P: Distance + Display>(rt: &HostRuntime, leg: &Leg<P>) -> anyhow::R
 
 fn print_legs<P: Distance + Display>(
     rt: &HostRuntime,
-    table: &mut RecordTable<P>,
+    table: &RecordTable<P>,
     tally: Tally,
 ) -> anyhow::Result<()> {
-    for i in 0..table.count() {
-        if let Some(leg) = table.get(i) {
-            print_leg(rt, &leg)?;
-        }
+    for leg in table.records().iter().take(tally.legs) {
+        print_leg(rt, leg)?;
     }
     let Tally { legs, cells } = tally;
     println!(rt;
@@ -94,14 +88,12 @@ fn fit<P: Distance + Display + Drop, R: Reduction<P>>(
     points: &[P],
     drawing: &Drawing,
 ) -> anyhow::Result<bool> {
-    let Some(span) = Span::new(0, 1) else {
-        return Err(anyhow!("a span of one tick cannot be had"));
-    };
+    let span = Span::new(0, 1).context("a span of one tick cannot be had")?;
     let mut work = vec![in rt.alloc(); P::zero(); MOST_WORK]?;
     let mut table = RecordTable::<P>::start(rt.alloc(), MOST_LEGS)?;
     match put_legs::<P, R>(points, drawing, span, &mut work, &mut table) {
         Ok(tally) => {
-            print_legs(rt, &mut table, tally)?;
+            print_legs(rt, &table, tally)?;
             Ok(true)
         }
         Err(refusal) => {
@@ -130,21 +122,12 @@ fn run(rt: &HostRuntime) -> anyhow::Result<bool> {
             Ok(true)
         }
         Request::Fit(drawing) => match drawing.kind {
-            Kind::Flow => fit_by::<Flow>(rt, &drawing.flows(rt.alloc())?, &drawing),
-            Kind::Box => fit_by::<Branches>(rt, &drawing.boxes(rt.alloc())?, &drawing),
+            Kind::Flow => fit_by::<Flow>(rt, &drawing.points(rt.alloc())?, &drawing),
+            Kind::Box => fit_by::<Branches>(rt, &drawing.points(rt.alloc())?, &drawing),
         },
     }
 }
 
 fn main(rt: HostRuntime) -> ExitCode {
-    match run(&rt) {
-        Ok(true) => ExitCode::SUCCESS,
-        // the refusal is printed already
-        Ok(false) => ExitCode::FAILURE,
-        Err(error) => {
-            // Where this cannot be printed, the status alone tells it.
-            let _ = eprintln!(rt; "fit: {error}");
-            ExitCode::FAILURE
-        }
-    }
+    exit_code(&rt, "fit", run(&rt))
 }

@@ -1,6 +1,8 @@
 //! What the arguments of `fit` ask for.
-use crate::drawing::{Drawing, Kind, Legs};
-use anyhow::anyhow;
+use crate::drawing::Drawing;
+use anyhow::{Context, bail};
+use plan_text::form::{Kind, Legs};
+use plan_text::word::read_word;
 use std::alloc::Global;
 use std::env::Args;
 
@@ -10,54 +12,36 @@ pub enum Request {
     Fit(Drawing),
 }
 
-fn kind_of(heap: Global, word: &str) -> anyhow::Result<Kind> {
-    match word {
-        "flow" => Ok(Kind::Flow),
-        "box" => Ok(Kind::Box),
-        _ => Err(anyhow!(format!(in heap;
-            "'{word}' is no kind: a kind is flow or box; try 'fit --help'"
-        )?)),
-    }
+fn kind_of(word: &str) -> anyhow::Result<Kind> {
+    read_word(word.as_bytes()).context(format_args!(
+        "'{word}' is no kind: a kind is flow or box; try 'fit --help'"
+    ))
 }
 
-fn legs_of(heap: Global, word: &str) -> anyhow::Result<Legs> {
-    match word {
-        "chord" => Ok(Legs::Chord),
-        "matching" => Ok(Legs::Matching),
-        _ => Err(anyhow!(format!(in heap;
-            "'{word}' is no reduction: a reduction is chord or matching; try 'fit --help'"
-        )?)),
-    }
+fn legs_of(word: &str) -> anyhow::Result<Legs> {
+    read_word(word.as_bytes()).context(format_args!(
+        "'{word}' is no reduction: a reduction is chord or matching; try 'fit --help'"
+    ))
 }
 
-fn number_of(heap: Global, text: &str) -> anyhow::Result<i64> {
-    match text.parse::<i64>() {
-        Ok(number) => Ok(number),
-        Err(_) => Err(anyhow!(format!(in heap;
-            "'{text}' is no whole number of 64 bits; try 'fit --help'"
-        )?)),
-    }
+fn number_of(text: &str) -> anyhow::Result<i64> {
+    text.parse::<i64>().ok().context(format_args!(
+        "'{text}' is no whole number of 64 bits; try 'fit --help'"
+    ))
 }
 
 fn next_arg(args: &mut Args) -> anyhow::Result<String> {
-    match args.next() {
-        Some(arg) => Ok(arg),
-        None => Err(anyhow!(
-            "a kind, a reduction, a tolerance and a depth are wanted; try 'fit --help'"
-        )),
-    }
+    args.next().context("a kind, a reduction, a tolerance and a depth are wanted; try 'fit --help'")
 }
 
 /// The coordinates that the rest of the arguments are; those of a box come in pairs.
 fn coordinates_of(heap: Global, kind: Kind, args: Args) -> anyhow::Result<Vec<i64>> {
     let mut coordinates = Vec::new(heap);
     for arg in args {
-        coordinates.push(number_of(heap, arg.as_str())?)?;
+        coordinates.push(number_of(arg.as_str())?)?;
     }
     if kind == Kind::Box && coordinates.len() % 2 != 0 {
-        return Err(anyhow!(
-            "a point of a box has two coordinates, and the last has one; try 'fit --help'"
-        ));
+        bail!("a point of a box has two coordinates, and the last has one; try 'fit --help'");
     }
     Ok(coordinates)
 }
@@ -70,10 +54,10 @@ impl Request {
         if first.as_str() == "--help" || first.as_str() == "-h" {
             return Ok(Request::Help);
         }
-        let kind = kind_of(heap, first.as_str())?;
-        let legs = legs_of(heap, next_arg(&mut args)?.as_str())?;
-        let tolerance = number_of(heap, next_arg(&mut args)?.as_str())?;
-        let depth = number_of(heap, next_arg(&mut args)?.as_str())?;
+        let kind = kind_of(first.as_str())?;
+        let legs = legs_of(next_arg(&mut args)?.as_str())?;
+        let tolerance = number_of(next_arg(&mut args)?.as_str())?;
+        let depth = number_of(next_arg(&mut args)?.as_str())?;
         Ok(Request::Fit(Drawing {
             kind,
             legs,

@@ -8,9 +8,10 @@ mod told;
 use crate::example::{LENGTH, put_example};
 use crate::request::Request;
 use crate::told::{tell_box, tell_flow};
-use anyhow::anyhow;
+use anyhow::bail;
 use card::any::{AnyLegs, read_any};
 use card::refusal::ReadError;
+use program::exit_code;
 use std::io::Read;
 use std::process::ExitCode;
 use std::{env, fs};
@@ -26,7 +27,7 @@ fn octets_of(rt: &HostRuntime, path: Option<&str>) -> anyhow::Result<Vec<u8>> {
     if let Some(path) = path {
         return match fs::read(rt, path) {
             Ok(octets) => Ok(octets),
-            Err(error) => Err(anyhow!(format!(in rt.alloc(); "cannot read '{path}': {error}")?)),
+            Err(error) => bail!("cannot read '{path}': {error}"),
         };
     }
     let mut octets = Vec::new(rt.alloc());
@@ -43,9 +44,9 @@ fn tell(rt: &HostRuntime, octets: &[u8], ticks: &[u32]) -> anyhow::Result<bool> 
             println!(rt; "{refusal}")?;
             Ok(false)
         }
-        Err(ReadError::NoMemory) => Err(anyhow!(
-            "there is not enough memory for the legs of this card"
-        )),
+        Err(ReadError::NoMemory) => {
+            bail!("there is not enough memory for the legs of this card")
+        }
     }
 }
 
@@ -53,12 +54,12 @@ fn tell(rt: &HostRuntime, octets: &[u8], ticks: &[u32]) -> anyhow::Result<bool> 
 fn write_example(rt: &HostRuntime, path: &str) -> anyhow::Result<()> {
     let mut octets = [0u8; LENGTH];
     if let Err(refusal) = put_example(&mut octets) {
-        return Err(anyhow!(format!(in rt.alloc(); "the example is {refusal}")?));
+        bail!("the example is {refusal}");
     }
-    match fs::write(rt, path, &octets[..]) {
-        Ok(()) => Ok(()),
-        Err(error) => Err(anyhow!(format!(in rt.alloc(); "cannot write '{path}': {error}")?)),
+    if let Err(error) = fs::write(rt, path, &octets[..]) {
+        bail!("cannot write '{path}': {error}");
     }
+    Ok(())
 }
 
 fn run(rt: &HostRuntime) -> anyhow::Result<bool> {
@@ -77,14 +78,5 @@ fn run(rt: &HostRuntime) -> anyhow::Result<bool> {
 }
 
 fn main(rt: HostRuntime) -> ExitCode {
-    match run(&rt) {
-        Ok(true) => ExitCode::SUCCESS,
-        // the refusal is printed already
-        Ok(false) => ExitCode::FAILURE,
-        Err(error) => {
-            // Where this cannot be printed, the status alone tells it.
-            let _ = eprintln!(rt; "gate: {error}");
-            ExitCode::FAILURE
-        }
-    }
+    exit_code(&rt, "gate", run(&rt))
 }

@@ -1,5 +1,5 @@
 //! What the arguments of `gate` ask for.
-use anyhow::anyhow;
+use anyhow::{Context, bail};
 use std::alloc::Global;
 use std::env::Args;
 
@@ -11,37 +11,32 @@ pub enum Request {
     Example { path: String },
 }
 
-fn tick_of(heap: Global, text: &str) -> anyhow::Result<u32> {
-    match text.parse::<u32>() {
-        Ok(tick) => Ok(tick),
-        Err(_) => Err(anyhow!(format!(in heap;
-            "'{text}' is no tick: a tick is a whole number from 0 to 4294967295; try 'gate --help'"
-        )?)),
-    }
+fn tick_of(text: &str) -> anyhow::Result<u32> {
+    text.parse::<u32>().ok().context(format_args!(
+        "'{text}' is no tick: a tick is a whole number from 0 to 4294967295; try 'gate --help'"
+    ))
 }
 
 /// The ticks that the rest of the arguments ask for.
 fn ticks_of(heap: Global, args: Args) -> anyhow::Result<Vec<u32>> {
     let mut ticks = Vec::new(heap);
     for arg in args {
-        ticks.push(tick_of(heap, arg.as_str())?)?;
+        ticks.push(tick_of(arg.as_str())?)?;
     }
     Ok(ticks)
 }
 
 /// The one file that the rest of the arguments name.
-fn only_file(args: Args) -> anyhow::Result<String> {
-    let mut args = args;
+fn only_file(mut args: Args) -> anyhow::Result<String> {
     let (Some(path), None) = (args.next(), args.next()) else {
-        return Err(anyhow!("--example wants one file; try 'gate --help'"));
+        bail!("--example wants one file; try 'gate --help'");
     };
     Ok(path)
 }
 
 impl Request {
     /// The first argument, which is the program's own name, is passed over.
-    pub fn from_args(heap: Global, args: Args) -> anyhow::Result<Request> {
-        let mut args = args;
+    pub fn from_args(heap: Global, mut args: Args) -> anyhow::Result<Request> {
         args.next();
         let Some(first) = args.next() else {
             return Ok(Request::StandardInput {
@@ -56,9 +51,9 @@ impl Request {
             "--example" => Ok(Request::Example {
                 path: only_file(args)?,
             }),
-            option if option.starts_with('-') => Err(anyhow!(format!(in heap;
-                "there is no option '{option}'; try 'gate --help'"
-            )?)),
+            option if option.starts_with('-') => {
+                bail!("there is no option '{option}'; try 'gate --help'")
+            }
             _ => Ok(Request::File {
                 path: first,
                 ticks: ticks_of(heap, args)?,

@@ -1,5 +1,5 @@
 //! What is printed of an accepted card.
-use anyhow::anyhow;
+use anyhow::bail;
 use card::refusal::Refusal;
 use leg::leg::Leg;
 use leg::value::first_value;
@@ -82,7 +82,7 @@ fn tell_all_ticks(rt: &HostRuntime, legs: &[Leg<Flow>]) -> anyhow::Result<()> {
 
 pub fn tell_box(rt: &HostRuntime, legs: &[Leg<Branches>], ticks: &[u32]) -> anyhow::Result<bool> {
     if ticks.len() > 0 {
-        return Err(anyhow!("this is a box card, and values are told of flow cards alone"));
+        bail!("this is a box card, and values are told of flow cards alone");
     }
     tell_legs(rt, "box", legs)?;
     Ok(true)

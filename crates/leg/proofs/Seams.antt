@@ -6,7 +6,7 @@ use Rattle.ordinate.specs.Flows.{flow}
 use Rattle.ordinate.specs.declared.flow.Flow.{Flow}
 use Rattle.leg.specs.Legs.{IsLeg}
 use Rattle.leg.specs.Ticks.{cells, begins_at, ends_at, Abuts}
-use Rattle.leg.specs.Chains.{Each, Last, Next, GoesOn, RunsOn, BeginsAfter, Seamless, Closed, Chained, last_or, stretches, stretch_of}
+use Rattle.leg.specs.Chains.{Each, Next, GoesOn, RunsOn, BeginsAfter, Seamless, Closed, Chained, last_or, stretches, stretch_of}
 use Rattle.leg.specs.Values.{FirstTells, Past, PastLast}
 use Rattle.leg.specs.declared.leg.Leg.{Leg}
 use Rattle.leg.specs.declared.leg.Stretch.{Stretch}

@@ -1,24 +1,9 @@
 -- What a leg and a list of legs tell.
-use Rattle.std.proofs.Common.{◌≡◌, ℕ, suc, ◌+◌, ◌*◌, ◌<◌, ◌≤◌, Bool, cond, ◌⊎◌, List, [], ◌∷◌, ◌++◌, length, get_or, drop, ℤ, Some, None, Option, sym, refl, ap, ◌∙◌, subst, inl, inr, add-one, arith, drop-cons, ne_eqb, MatchOption}
+use Rattle.std.proofs.Common.{◌≡◌, ℕ, ◌+◌, ◌<◌, ◌≤◌, List, [], ◌∷◌, ◌++◌, length, get_or, drop, Some, None, Option, sym, refl, subst, inl, inr, add-one, arith, drop-cons, MatchOption}
 use Rattle.std.proofs.lemmas.List.{drop_all}
 use Rattle.ordinate.specs.declared.flow.Flow.{Flow}
-use Rattle.leg.specs.Values.{floor, line, parabola, value_at, leg_value, Tells, FirstTells}
-use Rattle.leg.specs.Ticks.{moment}
+use Rattle.leg.specs.Values.{Tells, FirstTells}
 use Rattle.leg.specs.declared.leg.Leg.{Leg}
-
-pub straight_value : (m v s : ℕ) (p q z : ℤ) → m ≡ 1 → floor (line v s p z) v ≡ value_at m v s p q z
-straight_value m v s p q z e = rw e
-
-pub bent_value : (m v s : ℕ) (p q z : ℤ) → (m ≡ 1 → ⊥) → floor (parabola v s p q z) (v * v) ≡ value_at m v s p q z
-bent_value m v s p q z n = ap (λ (b : Bool). cond b (floor (line v s p z) v) (floor (parabola v s p q z) (v * v))) (sym (ne_eqb m 1 n))
-
-pub told_straight : (l : Leg Flow) (a v s : ℕ) (p z : ℤ) → l.degree ≡ 1 → v ≡ l.stretch.ticks → s ≡ moment l.stretch a → p ≡ l.start.value → z ≡ l.end.value
-    → floor (line v s p z) v ≡ leg_value l a
-told_straight l a v s p z m ev es ep ez = rw (ev, es, ep, ez) (straight_value l.degree l.stretch.ticks (moment l.stretch a) l.start.value l.middle.value l.end.value m)
-
-pub told_bent : (l : Leg Flow) (a v s : ℕ) (p q z : ℤ) → (l.degree ≡ 1 → ⊥) → v ≡ l.stretch.ticks → s ≡ moment l.stretch a → p ≡ l.start.value → q ≡ l.middle.value → z ≡ l.end.value
-    → floor (parabola v s p q z) (v * v) ≡ leg_value l a
-told_bent l a v s p q z m ev es ep eq ez = rw (ev, es, ep, eq, ez) (bent_value l.degree l.stretch.ticks (moment l.stretch a) l.start.value l.middle.value l.end.value m)
 
 -- ---- the first leg that tells
 module _ (a : ℕ) where

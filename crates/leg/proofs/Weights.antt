@@ -1,6 +1,5 @@
 -- Weighted coordinates of a leg, and their sums, fit 64 bits.
-use Rattle.std.proofs.Common.{◌≡◌, ℕ, suc, ◌+◌, ◌*◌, ◌<◌, ◌≤◌, ℤ, pos, negsuc, ◌+ℤ◌, ◌*ℤ◌, neg_ℤ, ◌≤ℤ◌, ap₂, arith, w64, SFits, to_z, of_z}
-use Rattle.std.proofs.lemmas.Nat.{mul-le}
+use Rattle.std.proofs.Common.{◌≡◌, ℤ, pos, ◌+ℤ◌, neg_ℤ, ap₂, arith, w64, SFits, to_z, of_z}
 use Rattle.std.proofs.lemmas.Int.{ints}
 use Rattle.ordinate.specs.Kinds.{Between}
 use Rattle.ordinate.specs.Flows.{flow}
@@ -13,18 +12,8 @@ Reached z = Between flow.least flow.greatest z
 abbrev pub Weighted : ℤ → Type 0
 Weighted z = Between (neg_ℤ (pos 288230376151711744)) (pos 288230376151711744) z
 
-pub weighted : (w : ℕ) (z : ℤ) → w ≤ 33554432 → Reached z → Weighted (pos w *ℤ z)
-weighted w (pos b) h k = let m = mul-le w b 33554432 8589934592 h (omega (arith, ints)) in (omega (arith, ints), omega (arith, ints))
-weighted w (negsuc b) h k = let m = mul-le w (suc b) 33554432 8589934592 h (omega (arith, ints)) in (omega (arith, ints), omega (arith, ints))
-
-pub weighted_fits : (z : ℤ) → Weighted z → SFits w64 z
-weighted_fits z w = between_fits _ _ z (omega (arith, ints)) (omega (arith, ints)) w
-
-pub square_small : (a b : ℕ) → a ≤ 4096 → b ≤ 4096 → a * b ≤ 16777216
-square_small a b h k = mul-le a b 4096 4096 h k
-
-pub twice_small : (a b : ℕ) → a ≤ 4096 → b ≤ 4096 → 2 * a * b ≤ 33554432
-twice_small a b h k = mul-le (2 * a) b 8192 4096 (omega arith) k
+pub reached_fits : (z : ℤ) → Reached z → SFits w64 z
+reached_fits z h = between_fits flow.least flow.greatest z (omega (arith, ints)) (omega (arith, ints)) h
 
 pub two_sum : (x y : ℤ) → Weighted x → Weighted y → to_z w64 (of_z w64 (to_z w64 (of_z w64 x) +ℤ to_z w64 (of_z w64 y))) ≡ x +ℤ y
 two_sum x y a b = omega (arith, ints)

@@ -1,5 +1,5 @@
 -- The chain of legs: ticks and cells, and, apart from them, points.
-use Rattle.std.specs.Prelude.{◌≡◌, ℕ, ◌+◌, ◌*◌, ◌^◌, List, [], ◌∷◌, map, Some, None, Option}
+use Rattle.std.specs.Prelude.{◌≡◌, ◌+◌, ◌*◌, ◌^◌, List, [], ◌∷◌, map, Some, None, Option}
 use Rattle.leg.specs.Legs.{Stands}
 use Rattle.leg.specs.Ticks.{begins_at, Abuts}
 use Rattle.leg.specs.declared.leg.Leg.{Leg}

@@ -1,5 +1,5 @@
 //! The chain of legs: how one stretch goes on where another ends, and how far a chain has come.
-ghost use Rattle.std.specs.Prelude.{◌≡◌, false, T, Some as Just, None as Nothing};
+ghost use Rattle.std.specs.Prelude.{◌≡◌, ◌↔◌, IsTrue, false, T, Some as Just, None as Nothing};
 ghost use Rattle.leg.specs.Legs.{Stands};
 ghost use Rattle.leg.specs.Chains.{Last, Next, Standing, ClosedAfter, Follows};
 
@@ -9,24 +9,16 @@ use ordinate::kind::Ordinate;
 impl Stretch {
     /// Whether this is the last stretch of its span.
     pub fn is_last(self) -> bool
-        ensures yes { T result → Stands self × Last self }
-        ensures no { Stands self × Last self → T result }
+        ensures { IsTrue result ↔ (Stands self × Last self) }
     {
-        if !self.stands() {
-            return false;
-        }
-        self.cell.index + 1 == 1u32 << self.cell.depth
+        self.stands() && self.cell.index + 1 == 1u32 << self.cell.depth
     }
 
     /// Whether `next` goes on where this stretch ends.
     pub fn is_followed_by(self, next: Stretch) -> bool
-        ensures yes { T result → Stands self × Stands next × Next self next }
-        ensures no { Stands self × Stands next × Next self next → T result }
+        ensures { IsTrue result ↔ (Stands self × Stands next × Next self next) }
     {
-        if !self.stands() {
-            return false;
-        }
-        if !next.stands() {
+        if !self.stands() || !next.stands() {
             return false;
         }
         let cells = 1u32 << self.cell.depth;
@@ -56,16 +48,12 @@ impl<P: Ordinate> Chain<P> {
 
     /// Whether the leg goes on this chain.
     pub fn takes(&self, leg: &Leg<P>) -> bool
-        ensures yes { T result → Standing self.now.last × Stands leg.now.stretch × Follows self.now.last leg.now }
-        ensures no { Standing self.now.last × Stands leg.now.stretch × Follows self.now.last leg.now → T result }
+        ensures { IsTrue result ↔ (Standing self.now.last × Stands leg.now.stretch × Follows self.now.last leg.now) }
     {
         match self.last {
             None => leg.stretch.stands() && leg.stretch.from == 0 && leg.stretch.cell.index == 0,
             Some(before) => {
-                if !leg.start.equal(before.end) {
-                    return false;
-                }
-                before.stretch.is_followed_by(leg.stretch)
+                leg.start == before.end && before.stretch.is_followed_by(leg.stretch)
             }
         }
     }

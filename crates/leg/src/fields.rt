@@ -1,5 +1,5 @@
 //! Which numbers and points a leg may have.
-ghost use Rattle.std.specs.Prelude.{T};
+ghost use Rattle.std.specs.Prelude.{◌↔◌, IsTrue, T};
 ghost use Rattle.leg.specs.Legs.{Stands, IsLeg};
 
 use crate::leg::{Leg, Stretch};
@@ -8,16 +8,14 @@ use ordinate::kind::Ordinate;
 impl Stretch {
     /// Whether a leg may have these ticks and this cell.
     pub fn stands(self) -> bool
-        ensures yes { T result → Stands self }
-        ensures no { Stands self → T result }
+        ensures { IsTrue result ↔ Stands self }
     {
         if self.from > 65_535 || self.ticks < 1 || self.ticks > 4_096 {
             return false;
         }
-        if self.from + self.ticks > 65_536 || self.cell.depth > 10 {
-            return false;
-        }
-        self.cell.index < 1 << self.cell.depth
+        self.from + self.ticks <= 65_536
+            && self.cell.depth <= 10
+            && self.cell.index < 1 << self.cell.depth
     }
 }
 
@@ -27,23 +25,15 @@ impl<P: Ordinate> Leg<P> {
         ensures yes { T result → IsLeg P.kind self.now }
         ensures no { IsLeg P.kind self.now → T result }
     {
-        if !self.stretch.stands() {
-            return false;
-        }
         if self.degree != 1 && self.degree != 2 {
             return false;
         }
-        if self.degree == 1 {
-            if !self.middle.equal(self.start) {
-                return false;
-            }
-        }
-        if !self.start.in_range() {
+        if self.degree == 1 && self.middle != self.start {
             return false;
         }
-        if !self.middle.in_range() {
-            return false;
-        }
-        self.end.in_range()
+        self.stretch.stands()
+            && self.start.in_range()
+            && self.middle.in_range()
+            && self.end.in_range()
     }
 }

@@ -18,6 +18,7 @@ pub struct Stretch {
 }
 
 /// A piece of degree 1 or 2 that a drive can follow, with its three control points; a straight leg's middle is its start.
+/// The degree is a number here, since a record of a card may hold any.
 #[derive(Clone, Copy)]
 pub struct Leg<P> {
     pub stretch: Stretch,

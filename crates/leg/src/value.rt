@@ -3,7 +3,7 @@ ghost use Rattle.std.specs.Prelude.{◌≡◌, ℕ, ◌-◌, ◌*◌, ◌≤◌,
 ghost use Rattle.ordinate.specs.Kinds.{Between};
 ghost use Rattle.ordinate.specs.Flows.{flow};
 ghost use Rattle.ordinate.specs.declared.flow.Flow.{Flow as FlowT};
-ghost use Rattle.leg.specs.Legs.{Stands};
+ghost use Rattle.leg.specs.Legs.{Stands, IsLeg};
 ghost use Rattle.leg.specs.Ticks.{Covers, moment as the_moment};
 ghost use Rattle.leg.specs.Values.{floor, line, parabola, Tells, FirstTells};
 
@@ -50,32 +50,34 @@ fn rounded_down(sum: i64, parts: u32) -> i64
     sum.div_euclid(parts as i64)
 }
 
-fn line_at(v: u32, s: u32, p: i64, z: i64) -> i64
-    requires some { 1 ≤ v }
-    requires few { v ≤ 4096 }
-    requires inside { s ≤ v }
-    requires start { Between flow.least flow.greatest p }
-    requires end { Between flow.least flow.greatest z }
-    ensures { result ≡ floor (line v s p z) v }
-{
-    rounded_down(weighted(v - s, p) + weighted(s, z), v)
-}
-
-fn parabola_at(v: u32, s: u32, p: i64, q: i64, z: i64) -> i64
-    requires some { 1 ≤ v }
-    requires few { v ≤ 4096 }
-    requires inside { s ≤ v }
-    requires start { Between flow.least flow.greatest p }
-    requires middle { Between flow.least flow.greatest q }
-    requires end { Between flow.least flow.greatest z }
-    ensures { result ≡ floor (parabola v s p q z) (v * v) }
-{
-    let rest = v - s;
-    let sum = weighted(rest * rest, p) + weighted(2 * s * rest, q) + weighted(s * s, z);
-    rounded_down(sum, v * v)
-}
-
 impl Leg<Flow> {
+    /// The value of a straight leg at a local moment.
+    fn line_at(&self, moment: (u32, u32)) -> i64
+        requires leg { IsLeg flow self.now }
+        requires moment { (moment.1 ≡ self.now.stretch.ticks) × (moment.0 ≤ moment.1) }
+        ensures { result ≡ floor (line moment.1 moment.0 self.now.start.value self.now.end.value) moment.1 }
+    {
+        let (s, v) = moment;
+        rounded_down(
+            weighted(v - s, self.start.value) + weighted(s, self.end.value),
+            v,
+        )
+    }
+
+    /// The value of a quadratic leg at a local moment.
+    fn parabola_at(&self, moment: (u32, u32)) -> i64
+        requires leg { IsLeg flow self.now }
+        requires moment { (moment.1 ≡ self.now.stretch.ticks) × (moment.0 ≤ moment.1) }
+        ensures { result ≡ floor (parabola moment.1 moment.0 self.now.start.value self.now.middle.value self.now.end.value) (moment.1 * moment.1) }
+    {
+        let (s, v) = moment;
+        let rest = v - s;
+        let sum = weighted(rest * rest, self.start.value)
+            + weighted(2 * s * rest, self.middle.value)
+            + weighted(s * s, self.end.value);
+        rounded_down(sum, v * v)
+    }
+
     /// What the leg tells at a tick that it covers; `None` for any other tick, and for data that is no leg.
     pub fn value_at(&self, tick: u32) -> Option<Flow>
         ensures { MatchOption result ((v : FlowT) → Tells self.now tick v → ⊥) (λ v. Tells self.now tick v) }
@@ -83,17 +85,13 @@ impl Leg<Flow> {
         if !self.is_leg() {
             return None;
         }
-        let Some((s, v)) = self.stretch.moment(tick) else {
-            return None;
+        let moment = self.stretch.moment(tick)?;
+        let value = if self.degree == 1 {
+            self.line_at(moment)
+        } else {
+            self.parabola_at(moment)
         };
-        if self.degree == 1 {
-            return Some(Flow {
-                value: line_at(v, s, self.start.value, self.end.value),
-            });
-        }
-        Some(Flow {
-            value: parabola_at(v, s, self.start.value, self.middle.value, self.end.value),
-        })
+        Some(Flow { value })
     }
 }
 
@@ -101,6 +99,7 @@ impl Leg<Flow> {
 pub fn first_value(legs: &[Leg<Flow>], tick: u32) -> Option<Flow>
     ensures { FirstTells legs.now tick result }
 {
+    // with `find_map` what the first of them tells is not proved
     for leg in legs {
         if let Some(value) = leg.value_at(tick) {
             return Some(value);

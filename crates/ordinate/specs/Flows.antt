@@ -1,7 +1,7 @@
 -- The kind flow: one coordinate, within 4 · 2,147,483,648 of zero.
 use Rattle.std.specs.Prelude.{pos, neg_ℤ}
-use Rattle.ordinate.specs.Kinds.{Kind, one}
+use Rattle.ordinate.specs.Kinds.{Kind, one, reach}
 use Rattle.ordinate.specs.declared.flow.Flow.{Flow}
 
 abbrev pub flow : Kind Flow
-flow = record { code = 1; dimension = 1; least = neg_ℤ (pos 8589934592); greatest = pos 8589934592; coordinate = λ p. one p.value; made = λ f. record { value = f 0 } }
+flow = record { code = 1; dimension = 1; least = neg_ℤ (pos reach); greatest = pos reach; coordinate = λ p. one p.value; made = λ f. record { value = f 0 } }

@@ -37,6 +37,10 @@ module _ {P : Type 0} (K : Kind P) where
   abbrev pub point_octets : P → List ℕ
   point_octets p = coordinates K.dimension (K.coordinate p)
 
+  -- the point whose coordinates are all 0
+  abbrev pub blank : P
+  blank = K.made (λ i. pos 0)
+
   -- A coordinate that a leg may have.
   abbrev pub Admitted : ℤ → Type 0
   Admitted z = Between K.least K.greatest z
@@ -48,6 +52,10 @@ module _ {P : Type 0} (K : Kind P) where
   pub record Set (p : P) (i : ℕ) (octets : List ℕ) (q : P) : Type 0 where
     pub here : i < K.dimension → K.coordinate q i ≡ coordinate_of octets
     pub others : (j : ℕ) → (j ≢ i) → K.coordinate q j ≡ K.coordinate p j
+
+-- how far from zero a leg's flows may lie
+abbrev pub reach : ℕ
+reach = 8589934592
 
 -- the coordinates of points that have one or two
 abbrev pub one : ℤ → ℕ → ℤ

@@ -1,8 +1,9 @@
 //! The kind box: a division box, which parts the canal into two branches.
+ghost use Rattle.std.proofs.Common.{rules};
 ghost use Rattle.ordinate.specs.Boxes.{box as the_box};
 ghost use Rattle.ordinate.specs.Laws.Kinds.{box_lawful};
 
-use crate::coordinate::{from_octets, is_between, to_octets};
+use crate::coordinate::is_in_reach;
 use crate::kind::Ordinate;
 use std::fmt;
 
@@ -17,13 +18,14 @@ const CODE: u8 = 2;
 
 const DIMENSION: usize = 2;
 
-/// How far from zero a leg's flows may lie: four times the limit of drawn flows.
-const REACH: i64 = 8_589_934_592;
-
 impl Ordinate for Branches {
     ghost kind = { the_box };
 
     ghost lawful = { box_lawful };
+
+    ghost exact = { Prim.search rules };
+
+    ghost cloned = { Prim.search rules };
 
     fn code() -> u8 {
         CODE
@@ -37,38 +39,30 @@ impl Ordinate for Branches {
         Branches { left: 0, right: 0 }
     }
 
-    fn octets(self, i: usize) -> [u8; 8] {
+    fn coordinate(self, i: usize) -> i64 {
         match i {
-            0 => to_octets(self.left),
-            1 => to_octets(self.right),
-            _ => to_octets(0),
+            0 => self.left,
+            1 => self.right,
+            _ => 0,
         }
     }
 
-    fn with(self, i: usize, octets: [u8; 8]) -> Branches {
-        let value = from_octets(octets);
+    fn with_coordinate(self, i: usize, value: i64) -> Branches {
         match i {
             0 => Branches {
                 left: value,
-                right: self.right,
+                ..self
             },
             1 => Branches {
-                left: self.left,
                 right: value,
+                ..self
             },
             _ => self,
         }
     }
 
     fn in_range(self) -> bool {
-        if !is_between(-REACH, REACH, self.left) {
-            return false;
-        }
-        is_between(-REACH, REACH, self.right)
-    }
-
-    fn equal(self, other: Branches) -> bool {
-        self == other
+        is_in_reach(self.left) && is_in_reach(self.right)
     }
 }
 

@@ -1,8 +1,9 @@
 //! The kind flow: what passes a single gate.
+ghost use Rattle.std.proofs.Common.{rules};
 ghost use Rattle.ordinate.specs.Flows.{flow as the_flow};
 ghost use Rattle.ordinate.specs.Laws.Kinds.{flow_lawful};
 
-use crate::coordinate::{from_octets, is_between, to_octets};
+use crate::coordinate::is_in_reach;
 use crate::kind::Ordinate;
 use std::fmt;
 
@@ -16,13 +17,14 @@ const CODE: u8 = 1;
 
 const DIMENSION: usize = 1;
 
-/// How far from zero a leg's flows may lie: four times the limit of drawn flows.
-const REACH: i64 = 8_589_934_592;
-
 impl Ordinate for Flow {
     ghost kind = { the_flow };
 
     ghost lawful = { flow_lawful };
+
+    ghost exact = { Prim.search rules };
+
+    ghost cloned = { Prim.search rules };
 
     fn code() -> u8 {
         CODE
@@ -36,29 +38,16 @@ impl Ordinate for Flow {
         Flow { value: 0 }
     }
 
-    fn octets(self, i: usize) -> [u8; 8] {
-        if i == 0 {
-            to_octets(self.value)
-        } else {
-            to_octets(0)
-        }
+    fn coordinate(self, i: usize) -> i64 {
+        if i == 0 { self.value } else { 0 }
     }
 
-    fn with(self, i: usize, octets: [u8; 8]) -> Flow {
-        if i == 0 {
-            return Flow {
-                value: from_octets(octets),
-            };
-        }
-        self
+    fn with_coordinate(self, i: usize, value: i64) -> Flow {
+        if i == 0 { Flow { value } } else { self }
     }
 
     fn in_range(self) -> bool {
-        is_between(-REACH, REACH, self.value)
-    }
-
-    fn equal(self, other: Flow) -> bool {
-        self == other
+        is_in_reach(self.value)
     }
 }
 

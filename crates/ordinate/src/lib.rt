@@ -1,4 +1,4 @@
-//! Points, as legs and cards need them: their octets, their range, their zero and their equality.
+//! Points, as legs and cards need them: their coordinates and the octets of these, their range, their zero and their equality.
 //! A file for each kind of ordinate.
 #![tactic(auto)]
 

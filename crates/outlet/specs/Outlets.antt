@@ -1,6 +1,6 @@
 -- What an outlet holds, and what putting and keeping do to it.
-use Rattle.std.specs.Prelude.{◌≡◌, ℕ, ◌-◌, ◌≤◌, List, [], ◌∷◌, ◌++◌, length, take, drop, replicate, Ok, Err, Result}
-use Rattle.ordinate.specs.Kinds.{Kind}
+use Rattle.std.specs.Prelude.{◌≡◌, ℕ, ◌+◌, ◌-◌, ◌≤◌, List, [], ◌∷◌, ◌++◌, length, take, drop, replicate, Ok, Err, Result}
+use Rattle.ordinate.specs.Kinds.{Kind, blank}
 use Rattle.leg.specs.Legs.{IsLeg}
 use Rattle.leg.specs.declared.leg.Leg.{Leg}
 use Rattle.outlet.specs.declared.put_refusal.PutRefusal.{PutRefusal}
@@ -33,20 +33,27 @@ module _ {P : Type 0} where
   Put K c l (Err NoLeg) c' = (IsLeg K l → ⊥) × (c' ≡ c)
   Put K c l (Err Full) c' = IsLeg K l × (room c ≡ 0) × (c' ≡ c)
 
-  -- ---- the record table
+-- ---- the record table
 
-  -- The leg that stands in unused records; its points are zero.
-  abbrev pub a_blank_leg : P → Leg P
-  a_blank_leg zero = record { stretch = record { from = 0; ticks = 1; cell = record { depth = 0; index = 0 } }; degree = 1; start = zero; middle = zero; end = zero }
+-- A table of records as it is seen: the legs in its first records, and how many records come after them, all of which are the blank one.
+pub record Table (P : Type 0) : Type 0 where
+  pub legs : List (Leg P)
+  pub blanks : ℕ
+  pub blank : Leg P
 
-  -- A table holds the legs in its first records.
-  abbrev pub held : ℕ → List (Leg P) → Contents P
-  held count records = record { legs = take count records; capacity = length records }
+module _ {P : Type 0} where
+  -- What it holds, as an outlet.
+  abbrev pub held : Table P → Contents P
+  held t = record { legs = t.legs; capacity = length t.legs + t.blanks }
+
+  -- All records: the legs, then blanks.
+  abbrev pub records_of : Table P → List (Leg P)
+  records_of t = t.legs ++ replicate t.blanks t.blank
 
   -- From record n on, all records are the blank one.
   abbrev pub BlankFrom : ℕ → List (Leg P) → Leg P → Type 0
   BlankFrom n records blank = (n ≤ length records) × (drop n records ≡ replicate (length records - n) blank)
 
-  -- The records of a table that holds these legs: the legs, then blanks.
-  abbrev pub table_of : Leg P → Contents P → List (Leg P)
-  table_of blank c = c.legs ++ replicate (room c) blank
+  -- The leg that stands in unused records; its points are zero.
+  abbrev pub blank_leg : Kind P → Leg P
+  blank_leg K = record { stretch = record { from = 0; ticks = 1; cell = record { depth = 0; index = 0 } }; degree = 1; start = blank K; middle = blank K; end = blank K }

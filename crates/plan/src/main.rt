@@ -1,10 +1,13 @@
 //! plan: reads a plan text on standard input, and prints what each line is answered, and the legs of the sealed turn.
 #![tactic(auto)]
 
-use anyhow::anyhow;
+use anyhow::bail;
+use plan_session::calls::MOST_LEGS;
 use plan_session::session::Session;
 use plan_text::lines::{check_length, next_line};
 use plan_text::print::{LINE_ROOM, print_refused};
+use plan_text::refusal::TextRefusal;
+use program::exit_code;
 use std::env;
 use std::io::{Read, Write};
 use std::process::ExitCode;
@@ -12,9 +15,6 @@ use std::process::ExitCode;
 const USAGE: &str = "usage: plan
 Reads a plan text on standard input, and prints the refusals of its lines and, for
 an accepted seal, the legs of the turn.";
-
-/// As many legs as a turn may have.
-const MOST_LEGS: usize = 512;
 
 /// Prints the first octets of the buffer.
 fn print_octets(rt: &HostRuntime, buffer: &[u8], length: usize) -> anyhow::Result<()> {
@@ -26,6 +26,7 @@ fn print_octets(rt: &HostRuntime, buffer: &[u8], length: usize) -> anyhow::Resul
 
 fn print_legs(rt: &HostRuntime, session: &mut Session) -> anyhow::Result<()> {
     let mut buffer = [0u8; LINE_ROOM];
+    // a session prints leg by leg: it is no iterator
     for i in 0..MOST_LEGS {
         let Ok(Some(length)) = session.leg(i, &mut buffer) else {
             return Ok(());
@@ -45,14 +46,14 @@ fn print_answer(rt: &HostRuntime, session: &mut Session, line: &[u8]) -> anyhow:
     }
     match answer {
         Ok(length) => print_octets(rt, &buffer, length),
-        Err(refusal) => Err(anyhow!(format!(in rt.alloc(); "{refusal}")?)),
+        Err(refusal) => bail!("{refusal}"),
     }
 }
 
-/// Prints the one line of a text that is too long to be read.
-fn print_too_long(rt: &HostRuntime, number: u32) -> anyhow::Result<()> {
+/// Prints the one line of a text that is refused as a whole.
+fn print_text_refused(rt: &HostRuntime, refusal: TextRefusal) -> anyhow::Result<()> {
     let mut buffer = [0u8; LINE_ROOM];
-    if let Ok(length) = print_refused(number, 0, &mut buffer) {
+    if let Ok(length) = print_refused(refusal.number(), 0, &mut buffer) {
         print_octets(rt, &buffer, length)?;
     }
     Ok(())
@@ -60,7 +61,7 @@ fn print_too_long(rt: &HostRuntime, number: u32) -> anyhow::Result<()> {
 
 fn plan(rt: &HostRuntime, text: &[u8]) -> anyhow::Result<()> {
     if let Err(refusal) = check_length(text) {
-        return print_too_long(rt, refusal.number());
+        return print_text_refused(rt, refusal);
     }
     let mut session = Session::new();
     let mut rest = text;
@@ -79,7 +80,7 @@ fn run(rt: &HostRuntime) -> anyhow::Result<()> {
             println!(rt; "{USAGE}")?;
             return Ok(());
         }
-        return Err(anyhow!("no arguments are taken; try 'plan --help'"));
+        bail!("no arguments are taken; try 'plan --help'");
     }
     let mut text = Vec::new(rt.alloc());
     rt.stdin().read_to_end(&mut text)?;
@@ -87,10 +88,5 @@ fn run(rt: &HostRuntime) -> anyhow::Result<()> {
 }
 
 fn main(rt: HostRuntime) -> ExitCode {
-    if let Err(error) = run(&rt) {
-        // Where this cannot be printed, the status alone tells it.
-        let _ = eprintln!(rt; "plan: {error}");
-        return ExitCode::FAILURE;
-    }
-    ExitCode::SUCCESS
+    exit_code(&rt, "plan", run(&rt).map(|()| true))
 }

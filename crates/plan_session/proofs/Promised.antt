@@ -1,33 +1,37 @@
 -- Every line keeps the promise.
-use Rattle.std.proofs.Common.{◌≡◌, ◌⊎◌, inl, inr, ℕ, false, true, List, [], ◌∷◌, map, ℤ, Some, None, Option, Ok, Err, Result, IfOk, sym, refl, ap, subst, ◌∙◌}
+use Rattle.std.proofs.Common.{◌≡◌, ◌⊎◌, inl, inr, ℕ, false, true, List, [], ◌∷◌, Some, None, Option, Ok, Err, Result, IfOk, sym, refl, ap, subst, ◌∙◌}
+use Rattle.ordinate.specs.Kinds.{Kind, Lawful}
 use Rattle.ordinate.specs.Flows.{flow}
 use Rattle.ordinate.specs.Boxes.{box}
 use Rattle.ordinate.specs.Laws.Kinds.{flow_lawful, box_lawful}
+use Rattle.distance.specs.Measures.{LawfulMeasure, Measure}
 use Rattle.distance.specs.Flows.{flow_measure}
 use Rattle.distance.specs.Boxes.{box_measure}
 use Rattle.distance.specs.Laws.Flows.{flow_measured}
 use Rattle.distance.specs.Laws.Boxes.{box_measured}
+use Rattle.bezier.specs.Reductions.{LawfulReduction}
 use Rattle.bezier.specs.Laws.Reductions.{chord_lawful, matching_lawful}
-use Rattle.leg.specs.Reasons.{First}
-use Rattle.turn.specs.Calls.{Call, lay, strike, seal, History}
+use Rattle.turn.specs.Calls.{Call, lay, strike, seal}
 use Rattle.turn.specs.Settings.{LawfulSetting, Setting}
 use Rattle.turn.specs.Whole.{Whole}
 use Rattle.turn.specs.declared.refusal.Refusal.{Refusal}
 use Rattle.turn.proofs.Kept.{at_first, kept}
-use Rattle.planner.specs.Drafts.{begin_reasons}
 use Rattle.planner.specs.Runs.{agreed}
+use Rattle.planner.specs.declared.begin.Terms.{Terms}
 use Rattle.plan_text.specs.Forms.{PlanForm, Says}
 use Rattle.plan_text.specs.Forms.PlanForm.{turn as turn_form, span as span_form, strike as strike_form, seal as seal_form}
 use Rattle.plan_text.proofs.OneForm.{one_form}
 use Rattle.plan_text.specs.declared.form.At.{At}
-use Rattle.plan_text.specs.declared.form.Kind.{Kind}
+use Rattle.plan_text.specs.declared.form.Kind.{Kind as TypedKind}
 use Rattle.plan_text.specs.declared.form.Kind.TheVariants as Kinds
 use Rattle.plan_text.specs.declared.form.Legs.{Legs}
 use Rattle.plan_text.specs.declared.form.Legs.TheVariants.{Chord, Matching}
 use Rattle.plan_text.specs.declared.form.TurnForm.{TurnForm}
-use Rattle.plan_session.specs.Makings.{Answers, Called, Calls, InPlace, Made, fresh, terms_of}
-use Rattle.plan_session.specs.Promises.{KeepsPromise, NoTurn, Promise, SaysCall, StandsFor, Tells}
-use Rattle.plan_session.specs.Sessions.{BeginsFor, FirstHears, Hears, HearsForm, State, waiting, flow_turn, box_turn, flow_at, box_at, begun_by, measure_of, rule_of, state_of}
+use Rattle.plan_session.specs.Makings.{Answers, Calls, InPlace, Judged, Made, any_made, fresh, rule_of, terms_of}
+use Rattle.plan_session.specs.Promises.{KeepsPromise, NoTurn, Promise, SaysCall, StandsFor}
+use Rattle.plan_session.specs.Sessions.{BeginsFor, FirstHears, Hears, HearsForm, State, waiting, flow_turn, box_turn, flow_at, box_at, begun_by, measure_of, state_of}
+use Rattle.plan_session.specs.declared.any_making.AnyMaking.{AnyMaking}
+use Rattle.plan_session.specs.declared.any_making.AnyMaking.TheVariants as Any
 use Rattle.plan_session.specs.declared.reply.Reply.{Reply}
 use Rattle.plan_session.specs.declared.stage.Stage.{Stage}
 use Rattle.plan_session.specs.declared.stage.Stage.TheVariants as Stages
@@ -62,22 +66,28 @@ module _ {P : Type 0} (at : P → At) (wrap : Made P → State) where
     answers m m' f r law s (inl a) k = stays m m' a.1.1 k (inl a.0)
     answers m m' f r law s (inr a) k = in_place m m' f r law a.0 s a.1 k
 
+    -- The line begins the turn.
+    begins : (A : Setting P) (t : TurnForm) → LawfulSetting A → wrap (fresh A) ≡ begun_by t.kind t → Says line (Some (turn_form t)) → NoTurn lines → KeepsPromise at wrap (line ∷ lines) (fresh A)
+    begins A t law e s n = ([], inl (n, record { form = t; says = s; begun = e; none = refl }), at_first A law _ refl)
+
 -- ---- before the turn
 
-flow_setting : (g : Legs) (t : TurnForm) → LawfulSetting (agreed flow flow_measure (rule_of flow g) (terms_of t))
-flow_setting Chord t = record { kind = flow_lawful; measure = flow_measured; rule = chord_lawful flow flow_measure }
-flow_setting Matching t = record { kind = flow_lawful; measure = flow_measured; rule = matching_lawful flow flow_measure flow_lawful }
+module _ {P : Type 0} (K : Kind P) (M : Measure) (lawful : Lawful K) (measured : LawfulMeasure K M) where
+  lawful_rule : (g : Legs) → LawfulReduction K M (rule_of K g)
+  lawful_rule Chord = chord_lawful K M
+  lawful_rule Matching = matching_lawful K M lawful
 
-box_setting : (g : Legs) (t : TurnForm) → LawfulSetting (agreed box box_measure (rule_of box g) (terms_of t))
-box_setting Chord t = record { kind = box_lawful; measure = box_measured; rule = chord_lawful box box_measure }
-box_setting Matching t = record { kind = box_lawful; measure = box_measured; rule = matching_lawful box box_measure box_lawful }
+  lawful_setting : (g : Legs) (terms : Terms) → LawfulSetting (agreed K M (rule_of K g) terms)
+  lawful_setting g terms = record { kind = lawful; measure = measured; rule = lawful_rule g }
+
+  lawful_any : (m : AnyMaking P) → LawfulSetting (any_made K M m).setting
+  lawful_any (Any.Chord m) = lawful_setting Chord m.terms
+  lawful_any (Any.Matching m) = lawful_setting Matching m.terms
 
 module _ (line : List ℕ) (lines : List (List ℕ)) where
-  begun_promise : (k : Kind) (t : TurnForm) → t.kind ≡ k → Says line (Some (turn_form t)) → NoTurn lines → Promise (line ∷ lines) (begun_by k t)
-  begun_promise Kinds.Flow t e s n =
-      ([], inl (n, record { form = t; says = s; begun = ap (λ (k : Kind). begun_by k t) (sym e); none = refl }), at_first (agreed flow flow_measure (rule_of flow t.legs) (terms_of t)) (flow_setting t.legs t) _ refl)
-  begun_promise Kinds.Box t e s n =
-      ([], inl (n, record { form = t; says = s; begun = ap (λ (k : Kind). begun_by k t) (sym e); none = refl }), at_first (agreed box box_measure (rule_of box t.legs) (terms_of t)) (box_setting t.legs t) _ refl)
+  begun_promise : (k : TypedKind) (t : TurnForm) → t.kind ≡ k → Says line (Some (turn_form t)) → NoTurn lines → Promise (line ∷ lines) (begun_by k t)
+  begun_promise Kinds.Flow t e s n = begins flow_at flow_turn line lines _ t (lawful_setting flow flow_measure flow_lawful flow_measured t.legs (terms_of t)) (ap (λ (k : TypedKind). begun_by k t) (sym e)) s n
+  begun_promise Kinds.Box t e s n = begins box_at box_turn line lines _ t (lawful_setting box box_measure box_lawful box_measured t.legs (terms_of t)) (ap (λ (k : TypedKind). begun_by k t) (sym e)) s n
 
   IsTurn : PlanForm → Type 0
   IsTurn (turn_form t) = Unit {0}
@@ -90,14 +100,14 @@ module _ (line : List ℕ) (lines : List (List ℕ)) where
   no_more s' f s n e k =
       subst (Promise (line ∷ lines)) (sym e) (k, λ t st. absurd (n (subst IsTurn (same line f (turn_form t) s st) tt)))
 
-  begins_for : (s' : State) (t : TurnForm) (r : Reply) (f : Option Refusal) → Says line (Some (turn_form t)) → First (begin_reasons (measure_of t.kind) (terms_of t)) f → BeginsFor f t r s' → NoTurn lines → Promise (line ∷ lines) s'
+  begins_for : (s' : State) (t : TurnForm) (r : Reply) (f : Option Refusal) → Says line (Some (turn_form t)) → Judged (measure_of t.kind) t f → BeginsFor f t r s' → NoTurn lines → Promise (line ∷ lines) s'
   begins_for s' t r None s h b n = subst (Promise (line ∷ lines)) (sym b.1) (begun_promise t.kind t refl s n)
   begins_for s' t r (Some f) s h b n =
       subst (Promise (line ∷ lines)) (sym b.1)
       (n, λ u su. (f, subst IsRefused (sym (same line (turn_form t) (turn_form u) s su)) h))
     where
       IsRefused : PlanForm → Type 0
-      IsRefused (turn_form u) = First (begin_reasons (measure_of u.kind) (terms_of u)) (Some f)
+      IsRefused (turn_form u) = Judged (measure_of u.kind) u (Some f)
       IsRefused (span_form l ats) = ⊥
       IsRefused strike_form = ⊥
       IsRefused seal_form = ⊥
@@ -109,12 +119,12 @@ module _ (line : List ℕ) (lines : List (List ℕ)) where
   first_hears s' strike_form r s b n = no_more s' strike_form s (λ x. x) b.1 n
   first_hears s' seal_form r s b n = no_more s' seal_form s (λ x. x) b.1 n
 
-  abbrev Lawful : State → Type 0
-  Lawful waiting = Unit {0}
-  Lawful (flow_turn m) = LawfulSetting m.setting
-  Lawful (box_turn m) = LawfulSetting m.setting
+  abbrev LawfulState : State → Type 0
+  LawfulState waiting = Unit {0}
+  LawfulState (flow_turn m) = LawfulSetting m.setting
+  LawfulState (box_turn m) = LawfulSetting m.setting
 
-  hears_form : (s s' : State) (f : PlanForm) (r : Reply) → Lawful s → Says line (Some f) → HearsForm s f r s' → Promise lines s → Promise (line ∷ lines) s'
+  hears_form : (s s' : State) (f : PlanForm) (r : Reply) → LawfulState s → Says line (Some f) → HearsForm s f r s' → Promise lines s → Promise (line ∷ lines) s'
   hears_form waiting s' f r law says a k = first_hears s' f r says a k
   hears_form (flow_turn m) s' f r law says a k = subst (Promise (line ∷ lines)) (sym a.2) (answers flow_at flow_turn line lines m a.0 f r law says a.1 k)
   hears_form (box_turn m) s' f r law says a k = subst (Promise (line ∷ lines)) (sym a.2) (answers box_at box_turn line lines m a.0 f r law says a.1 k)
@@ -124,16 +134,14 @@ module _ (line : List ℕ) (lines : List (List ℕ)) where
   no_form (flow_turn m) n k = stays flow_at flow_turn line lines m m refl k (inr (λ call sc. n sc.0 sc.1.0 sc.1.1))
   no_form (box_turn m) n k = stays box_at box_turn line lines m m refl k (inr (λ call sc. n sc.0 sc.1.0 sc.1.1))
 
-  hears : (s s' : State) (o : Option PlanForm) (r : Reply) → Lawful s → Says line o → Hears s o r s' → Promise lines s → Promise (line ∷ lines) s'
+  hears : (s s' : State) (o : Option PlanForm) (r : Reply) → LawfulState s → Says line o → Hears s o r s' → Promise lines s → Promise (line ∷ lines) s'
   hears s s' None r law says a k = subst (Promise (line ∷ lines)) (sym a.1) (no_form s says k)
   hears s s' (Some f) r law says a k = hears_form s s' f r law says a k
 
-  lawful_stage : (t : Stage) → Lawful (state_of t)
+  lawful_stage : (t : Stage) → LawfulState (state_of t)
   lawful_stage Stages.Waiting = tt
-  lawful_stage (Stages.FlowChord m) = record { kind = flow_lawful; measure = flow_measured; rule = chord_lawful flow flow_measure }
-  lawful_stage (Stages.FlowMatching m) = record { kind = flow_lawful; measure = flow_measured; rule = matching_lawful flow flow_measure flow_lawful }
-  lawful_stage (Stages.BoxChord m) = record { kind = box_lawful; measure = box_measured; rule = chord_lawful box box_measure }
-  lawful_stage (Stages.BoxMatching m) = record { kind = box_lawful; measure = box_measured; rule = matching_lawful box box_measure box_lawful }
+  lawful_stage (Stages.Flow m) = lawful_any flow flow_measure flow_lawful flow_measured m
+  lawful_stage (Stages.Box m) = lawful_any box box_measure box_lawful box_measured m
 
   pub stage_hears : (t : Stage) (s' : State) (o : Option PlanForm) (r : Reply) → Says line o → Hears (state_of t) o r s' → Promise lines (state_of t) → Promise (line ∷ lines) s'
   stage_hears t s' o r says a k = hears (state_of t) s' o r (lawful_stage t) says a k

@@ -1,24 +1,19 @@
 -- The promise, over the lines that a session has heard. The newest line stands first.
-use Rattle.std.specs.Prelude.{◌≡◌, ◌⊎◌, ℕ, false, true, List, [], ◌∷◌, map, Some, None}
-use Rattle.ordinate.specs.declared.flow.Flow.{Flow}
-use Rattle.ordinate.specs.declared.branches.Branches.{Branches}
-use Rattle.leg.specs.Reasons.{First}
-use Rattle.turn.specs.Calls.{Call, lay, strike, seal, History}
+use Rattle.std.specs.Prelude.{◌≡◌, ◌⊎◌, ℕ, false, true, List, [], ◌∷◌, map, Some}
+use Rattle.turn.specs.Calls.{Answer, Call, lay, strike, seal, History}
 use Rattle.turn.specs.Whole.{Whole}
-use Rattle.turn.specs.declared.answer.Answer.{Answer}
 use Rattle.turn.specs.declared.refusal.Refusal.{Refusal}
-use Rattle.planner.specs.Drafts.{begin_reasons}
 use Rattle.plan_text.specs.Forms.{PlanForm, Says}
 use Rattle.plan_text.specs.Forms.PlanForm.{turn as turn_form, span as span_form, strike as strike_form, seal as seal_form}
 use Rattle.plan_text.specs.declared.form.At.{At}
 use Rattle.plan_text.specs.declared.form.TurnForm.{TurnForm}
-use Rattle.plan_session.specs.Makings.{Called, Made, terms_of}
+use Rattle.plan_session.specs.Makings.{Called, Judged, Made}
 use Rattle.plan_session.specs.Sessions.{State, waiting, flow_turn, box_turn, flow_at, box_at, begun_by, measure_of}
 
 -- No line so far was a turn that is accepted.
 abbrev pub NoTurn : List (List ℕ) → Type 0
 NoTurn [] = Unit {0}
-NoTurn (line ∷ lines) = NoTurn lines × ((t : TurnForm) → Says line (Some (turn_form t)) → (f : Refusal) × First (begin_reasons (measure_of t.kind) (terms_of t)) (Some f))
+NoTurn (line ∷ lines) = NoTurn lines × ((t : TurnForm) → Says line (Some (turn_form t)) → (f : Refusal) × Judged (measure_of t.kind) t (Some f))
 
 module _ {P : Type 0} (at : P → At) (wrap : Made P → State) where
   -- The call that a form stands for; a turn stands for none.

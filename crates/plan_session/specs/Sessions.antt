@@ -1,6 +1,5 @@
 -- What a session answers, and what becomes of it.
-use Rattle.std.specs.Prelude.{◌≡◌, ℕ, ◌+◌, ◌≤◌, min, List, length, Some, None, Option, Ok, Err, Result}
-use Rattle.ordinate.specs.Kinds.{Kind}
+use Rattle.std.specs.Prelude.{◌≡◌, ℕ, List, Some, None, Option}
 use Rattle.ordinate.specs.Flows.{flow}
 use Rattle.ordinate.specs.Boxes.{box}
 use Rattle.ordinate.specs.declared.flow.Flow.{Flow}
@@ -8,25 +7,18 @@ use Rattle.ordinate.specs.declared.branches.Branches.{Branches}
 use Rattle.distance.specs.Measures.{Measure}
 use Rattle.distance.specs.Flows.{flow_measure}
 use Rattle.distance.specs.Boxes.{box_measure}
-use Rattle.bezier.specs.Reductions.{Rule, chord, matching}
-use Rattle.leg.specs.Reasons.{First}
-use Rattle.turn.specs.Refusals.{row}
 use Rattle.turn.specs.declared.refusal.Refusal.{Refusal}
-use Rattle.planner.specs.Drafts.{begin_reasons}
 use Rattle.planner.specs.Runs.{agreed}
 use Rattle.plan_text.specs.Forms.{PlanForm, Says}
 use Rattle.plan_text.specs.Forms.PlanForm.{turn, span, strike, seal}
-use Rattle.plan_text.specs.Printing.{Prints, RefusesShort}
 use Rattle.plan_text.specs.declared.form.At.{At}
 use Rattle.plan_text.specs.declared.form.At.TheVariants.{One, Two}
 use Rattle.plan_text.specs.declared.form.Kind.{Kind as TypedKind}
 use Rattle.plan_text.specs.declared.form.Kind.TheVariants as Kinds
-use Rattle.plan_text.specs.declared.form.Legs.{Legs}
-use Rattle.plan_text.specs.declared.form.Legs.TheVariants.{Chord, Matching}
 use Rattle.plan_text.specs.declared.form.TurnForm.{TurnForm}
-use Rattle.plan_text.specs.declared.refusal.TextRefusal.{TextRefusal}
-use Rattle.plan_session.specs.Makings.{Answers, Made, fresh, made, terms_of}
-use Rattle.plan_session.specs.Replies.{no_form, out_of_place, reply_text}
+use Rattle.plan_session.specs.Makings.{Answers, Judged, Made, any_made, fresh, rule_of, terms_of}
+use Rattle.plan_session.specs.Replies.{no_form, out_of_place}
+use Rattle.plan_session.specs.declared.reply.LineRefusal.TheVariants.{Call}
 use Rattle.plan_session.specs.declared.reply.Reply.{Reply}
 use Rattle.plan_session.specs.declared.reply.Reply.TheVariants.{Silent, Refused}
 use Rattle.plan_session.specs.declared.stage.Stage.{Stage}
@@ -45,10 +37,6 @@ flow_at p = One p.value
 abbrev pub box_at : Branches → At
 box_at p = Two p.left p.right
 
-abbrev pub rule_of : {P : Type 0} → Kind P → Legs → Rule P
-rule_of K Chord = chord K
-rule_of K Matching = matching K
-
 abbrev pub measure_of : TypedKind → Measure
 measure_of Kinds.Flow = flow_measure
 measure_of Kinds.Box = box_measure
@@ -60,11 +48,11 @@ begun_by Kinds.Box t = box_turn (fresh (agreed box box_measure (rule_of box t.le
 
 abbrev pub BeginsFor : Option Refusal → TurnForm → Reply → State → Type 0
 BeginsFor None t r s' = (r ≡ Silent) × (s' ≡ begun_by t.kind t)
-BeginsFor (Some f) t r s' = (r ≡ Refused (row f).0) × (s' ≡ waiting)
+BeginsFor (Some f) t r s' = (r ≡ Refused (Call f)) × (s' ≡ waiting)
 
--- The first reason that holds of the terms refuses the turn; where none does it is begun.
+-- A turn that is not refused is begun.
 abbrev pub Begins : TurnForm → Reply → State → Type 0
-Begins t r s' = (f : Option Refusal) × First (begin_reasons (measure_of t.kind) (terms_of t)) f × BeginsFor f t r s'
+Begins t r s' = (f : Option Refusal) × Judged (measure_of t.kind) t f × BeginsFor f t r s'
 
 -- Before the turn, only a turn is in its place.
 abbrev pub FirstHears : PlanForm → Reply → State → Type 0
@@ -91,7 +79,5 @@ SaysAndHears s line r s' = (f : Option PlanForm) × Says line f × Hears s f r s
 
 abbrev pub state_of : Stage → State
 state_of Stages.Waiting = waiting
-state_of (Stages.FlowChord m) = flow_turn (made flow flow_measure (chord flow) m)
-state_of (Stages.FlowMatching m) = flow_turn (made flow flow_measure (matching flow) m)
-state_of (Stages.BoxChord m) = box_turn (made box box_measure (chord box) m)
-state_of (Stages.BoxMatching m) = box_turn (made box box_measure (matching box) m)
+state_of (Stages.Flow m) = flow_turn (any_made flow flow_measure m)
+state_of (Stages.Box m) = box_turn (any_made box box_measure m)

@@ -1,14 +1,13 @@
 //! The calls that forms stand for, made on a turn.
-ghost use Rattle.std.specs.Prelude.{◌≡◌, T, length, pos, IfOk, IsTrue, ◌↔◌, true};
-ghost use Rattle.leg.specs.Reasons.{First, refusal as why};
-ghost use Rattle.turn.specs.Calls.Call.{lay as the_lay, strike as the_strike, seal as the_seal};
-ghost use Rattle.planner.specs.Drafts.{begin_reasons};
-ghost use Rattle.planner.specs.Runs.{agreed};
-ghost use Rattle.plan_session.specs.Makings.{AnswersOpen, fresh, is_sealed as sealed_turn, made, terms_of as the_terms};
+ghost use Rattle.std.specs.Prelude.{◌≡◌, IfOk};
+ghost use Rattle.turn.specs.Calls.{call_of};
+ghost use Rattle.planner.specs.Runs.{agreed, lent};
+ghost use Rattle.plan_session.specs.Makings.{AnswersOpen, Judged, begin_refusal, fresh, is_sealed as sealed_turn, made, reply_to as the_reply, terms_of as the_terms};
 
-use crate::making::Making;
+use crate::making::{BeginError, Making};
 use crate::reply::Reply;
 use bezier::reduction::Reduction;
+use curve::limits::MOST_WORK;
 use distance::measure::Distance;
 use ordinate::kind::Ordinate;
 use outlet::outlet::Outlet;
@@ -17,22 +16,14 @@ use plan_text::form::TurnForm;
 use plan_text::notation::Notation;
 use planner::begin::{Terms, begin};
 use planner::run::Turn;
-use std::alloc::{AllocError, Global};
+use std::alloc::Global;
+use turn::call::Call;
 use turn::refusal::Refusal;
 
 /// How many legs a turn may have.
-const MOST_LEGS: usize = 512;
+pub const MOST_LEGS: usize = 512;
 
-/// As many work points as any curve wants: a row for each depth from 0 to 10, for nine points at the most.
-const MOST_WORK: usize = 99;
-
-/// What a form was answered, and the making behind it.
-#[derive(Drop)]
-pub struct Step<P, R> {
-    pub making: Making<P, R>,
-    pub reply: Reply,
-}
-
+// No `From`: both types are of other crates.
 fn terms_of(form: TurnForm) -> Terms
     ensures { result ≡ the_terms form }
 {
@@ -43,136 +34,76 @@ fn terms_of(form: TurnForm) -> Terms
     }
 }
 
+/// What a line is answered whose call is answered so, where the turn has so many legs and this last tick.
+fn reply_to<P>(call: &Call<'_, P>, answer: Result<(), Refusal>, legs: usize, end: u32) -> Reply
+    ensures { result ≡ the_reply legs end (call_of call.now) answer }
+{
+    match answer {
+        Err(refusal) => Reply::Refused(refusal.into()),
+        Ok(()) => match call {
+            Call::Seal => Reply::Sealed { legs, ticks: end },
+            _ => Reply::Silent,
+        },
+    }
+}
+
 impl<P: Distance + Notation, R: Reduction<P>> Making<P, R> {
-    /// Begins a turn by its form, with an empty table.
-    pub fn begin(alloc: Global, form: TurnForm) -> Result<Result<Making<P, R>, Refusal>, AllocError>
-        ensures first { IfOk result (λ r. First (begin_reasons P.Distance.measure (the_terms form)) (why r)) }
-        ensures begun { IfOk result (λ r. IfOk r (λ m. made P.Ordinate.kind P.Distance.measure R.Reduction.rule m ≡ fresh (agreed P.Ordinate.kind P.Distance.measure R.Reduction.rule (the_terms form)))) }
+    /// Begins a turn by its form, with an empty table. The terms are looked at before memory is asked for.
+    pub fn begin(alloc: Global, form: TurnForm) -> Result<Making<P, R>, BeginError>
+        ensures first { Judged P.Distance.measure form (begin_refusal result) }
+        ensures begun { IfOk result (λ m. made P.Ordinate.kind P.Distance.measure R.Reduction.rule m ≡ fresh (agreed P.Ordinate.kind P.Distance.measure R.Reduction.rule (the_terms form))) }
     {
         let terms = terms_of(form);
-        let draft = match begin::<P, R>(terms) {
-            Ok(draft) => draft,
-            Err(refusal) => return Ok(Err(refusal)),
-        };
-        let table = RecordTable::<P>::start(alloc, MOST_LEGS)?;
-        let work = vec![in alloc; P::zero(); MOST_WORK]?;
-        Ok(Ok(Making {
+        let draft = begin::<P, R>(terms)?;
+        Ok(Making {
             terms,
             end: terms.end as u32,
             turn: Turn::Draft(draft),
-            table,
-            work,
-        }))
+            table: RecordTable::start(alloc, MOST_LEGS)?,
+            work: vec![in alloc; P::zero(); MOST_WORK]?,
+        })
     }
 
     pub(crate) fn is_sealed(&self) -> bool
         ensures { result ≡ sealed_turn self.now.turn }
     {
-        match &self.turn {
-            Turn::Draft(_) => false,
-            Turn::Sealed(_) => true,
-        }
+        matches!(&self.turn, Turn::Sealed(_))
     }
 
-    pub(crate) fn lay(self, points: &[P], ticks: i64) -> Step<P, R>
-        ensures { AnswersOpen (made P.Ordinate.kind P.Distance.measure R.Reduction.rule self) (the_lay points.now ticks 99) result.reply (made P.Ordinate.kind P.Distance.measure R.Reduction.rule result.making) }
+    /// Makes the call, where the turn is not sealed: what its line is answered, and the making behind it.
+    pub(crate) fn make(self, call: &Call<'_, P>) -> (Making<P, R>, Reply)
+        ensures { AnswersOpen (made P.Ordinate.kind P.Distance.measure R.Reduction.rule self) (lent 99 (call_of call.now)) result.1 (made P.Ordinate.kind P.Distance.measure R.Reduction.rule result.0) }
     {
+        // Taken apart, since the table and the work points are lent in one call.
         let Making {
             terms,
             end,
             turn,
-            table,
-            work,
+            mut table,
+            mut work,
         } = self;
-        let mut table = table;
-        let mut work = work;
-        let (turn, reply) = match turn {
-            Turn::Sealed(sealed) => (Turn::Sealed(sealed), Reply::out_of_place()),
-            Turn::Draft(draft) => {
-                match draft.lay::<RecordTable<P>>(&mut table, points, ticks, work.as_mut_slice()) {
-                    Ok(draft) => (Turn::Draft(draft), Reply::Silent),
-                    Err(refused) => (
-                        Turn::Draft(refused.draft),
-                        Reply::Refused(refused.refusal.number()),
-                    ),
-                }
+        let draft = match turn {
+            Turn::Draft(draft) => draft,
+            Turn::Sealed(sealed) => {
+                let making = Making {
+                    terms,
+                    end,
+                    turn: Turn::Sealed(sealed),
+                    table,
+                    work,
+                };
+                return (making, Reply::out_of_place());
             }
         };
-        Step {
-            making: Making {
-                terms,
-                end,
-                turn,
-                table,
-                work,
-            },
-            reply,
-        }
-    }
-
-    pub(crate) fn strike(self) -> Step<P, R>
-        ensures { AnswersOpen (made P.Ordinate.kind P.Distance.measure R.Reduction.rule self) the_strike result.reply (made P.Ordinate.kind P.Distance.measure R.Reduction.rule result.making) }
-    {
-        let Making {
+        let (turn, answer) = draft.make(&mut table, call, work.as_mut_slice());
+        let reply = reply_to(call, answer, table.count(), end);
+        let making = Making {
             terms,
             end,
             turn,
             table,
             work,
-        } = self;
-        let mut table = table;
-        let (turn, reply) = match turn {
-            Turn::Sealed(sealed) => (Turn::Sealed(sealed), Reply::out_of_place()),
-            Turn::Draft(draft) => match draft.strike::<RecordTable<P>>(&mut table) {
-                Ok(draft) => (Turn::Draft(draft), Reply::Silent),
-                Err(refused) => (
-                    Turn::Draft(refused.draft),
-                    Reply::Refused(refused.refusal.number()),
-                ),
-            },
         };
-        Step {
-            making: Making {
-                terms,
-                end,
-                turn,
-                table,
-                work,
-            },
-            reply,
-        }
-    }
-
-    pub(crate) fn seal(self) -> Step<P, R>
-        ensures { AnswersOpen (made P.Ordinate.kind P.Distance.measure R.Reduction.rule self) the_seal result.reply (made P.Ordinate.kind P.Distance.measure R.Reduction.rule result.making) }
-    {
-        let Making {
-            terms,
-            end,
-            turn,
-            table,
-            work,
-        } = self;
-        let mut table = table;
-        let (turn, reply) = match turn {
-            Turn::Sealed(sealed) => (Turn::Sealed(sealed), Reply::out_of_place()),
-            Turn::Draft(draft) => match draft.seal::<RecordTable<P>>(&mut table) {
-                Ok(sealed) => (Turn::Sealed(sealed), Reply::Sealed(table.count(), end)),
-                Err(refused) => (
-                    Turn::Draft(refused.draft),
-                    Reply::Refused(refused.refusal.number()),
-                ),
-            },
-        };
-        Step {
-            making: Making {
-                terms,
-                end,
-                turn,
-                table,
-                work,
-            },
-            reply,
-        }
+        (making, reply)
     }
 }

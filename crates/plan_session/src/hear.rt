@@ -7,10 +7,12 @@ use crate::making::Making;
 use crate::points::points_of;
 use crate::reply::Reply;
 use bezier::reduction::Reduction;
+use curve::limits::MOST_WORK;
 use distance::measure::Distance;
 use plan_text::form::Form;
 use plan_text::notation::Notation;
 use std::alloc::{AllocError, Global};
+use turn::call::Call;
 
 impl<P: Distance + Notation, R: Reduction<P>> Making<P, R> {
     /// What the form is answered, and the making behind it. Where memory is wanting the making stays.
@@ -21,16 +23,20 @@ impl<P: Distance + Notation, R: Reduction<P>> Making<P, R> {
         if self.is_sealed() {
             return (self, Ok(Reply::out_of_place()));
         }
-        let step = match form {
+        let (making, reply) = match form {
             Form::Turn(_) => return (self, Ok(Reply::out_of_place())),
             Form::Span(span) => match points_of::<P>(alloc, span.points.as_slice()) {
-                Ok(Some(points)) => self.lay(points.as_slice(), span.ticks),
+                Ok(Some(points)) => self.make(&Call::Lay {
+                    points: points.as_slice(),
+                    ticks: span.ticks,
+                    work: MOST_WORK,
+                }),
                 Ok(None) => return (self, Ok(Reply::no_form())),
                 Err(error) => return (self, Err(error)),
             },
-            Form::Strike => self.strike(),
-            Form::Seal => self.seal(),
+            Form::Strike => self.make(&Call::Strike),
+            Form::Seal => self.make(&Call::Seal),
         };
-        (step.making, Ok(step.reply))
+        (making, Ok(reply))
     }
 }

@@ -1,6 +1,7 @@
 //! Sessions: a turn typed line by line, and what each line is answered.
 #![tactic(auto)]
 
+pub mod any_making;
 pub mod calls;
 pub mod hear;
 pub mod listing;

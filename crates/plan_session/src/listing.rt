@@ -40,10 +40,8 @@ impl Session {
     {
         match &self.stage {
             Stage::Waiting => false,
-            Stage::FlowChord(making) => making.is_sealed(),
-            Stage::FlowMatching(making) => making.is_sealed(),
-            Stage::BoxChord(making) => making.is_sealed(),
-            Stage::BoxMatching(making) => making.is_sealed(),
+            Stage::Flow(making) => making.is_sealed(),
+            Stage::Box(making) => making.is_sealed(),
         }
     }
 
@@ -57,10 +55,8 @@ impl Session {
         }
         match &mut self.stage {
             Stage::Waiting => Ok(None),
-            Stage::FlowChord(making) => making.leg(i, buffer),
-            Stage::FlowMatching(making) => making.leg(i, buffer),
-            Stage::BoxChord(making) => making.leg(i, buffer),
-            Stage::BoxMatching(making) => making.leg(i, buffer),
+            Stage::Flow(making) => making.leg(i, buffer),
+            Stage::Box(making) => making.leg(i, buffer),
         }
     }
 }

@@ -13,6 +13,7 @@ pub(crate) fn points_of<P: Notation>(
 ) -> Result<Option<Vec<P>>, AllocError>
     ensures { IfOk result (λ points. MatchOption points ((ps : List P) → map P.at ps ≢ numbers.now) (λ v. map P.at v.items ≡ numbers.now)) }
 {
+    // A loop, since nothing is promised of items that are collected into an `Option`.
     let mut points = Vec::with_capacity(alloc, numbers.len())?;
     for at in numbers {
         let Some(point) = P::from_at(*at) else {

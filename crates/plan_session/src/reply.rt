@@ -1,19 +1,57 @@
 //! What a line is answered.
 ghost use Rattle.std.specs.Prelude.{◌≡◌};
 ghost use Rattle.plan_text.specs.Printing.{Prints};
-ghost use Rattle.plan_session.specs.Replies.{no_form as the_no_form, out_of_place as the_out_of_place, reply_text};
+ghost use Rattle.plan_session.specs.Replies.{line_number, no_form as the_no_form, out_of_place as the_out_of_place, reply_text};
+ghost use Rattle.plan_session.specs.declared.reply.LineRefusal.TheVariants.{Call as ByCall, Text as ByText};
 
 use plan_text::print::{LINE_ROOM, print_refused, print_sealed};
 use plan_text::refusal::TextRefusal;
+use turn::refusal::Refusal;
+
+/// Why a line is refused.
+#[derive(Clone, Copy, PartialEq, Eq, Debug)]
+pub enum LineRefusal {
+    /// As text: it is no form of this turn, or out of place.
+    Text(TextRefusal),
+    /// The call that it stands for is refused.
+    Call(Refusal),
+}
+
+impl LineRefusal {
+    /// The number by which the refusal goes.
+    pub fn number(self) -> u32
+        ensures { result ≡ line_number self }
+    {
+        match self {
+            LineRefusal::Text(refusal) => refusal.number(),
+            LineRefusal::Call(refusal) => refusal.number(),
+        }
+    }
+}
+
+impl From<TextRefusal> for LineRefusal {
+    ghost from_gives = { λ before after. after ≡ ByText before };
+
+    fn from(refusal: TextRefusal) -> LineRefusal {
+        LineRefusal::Text(refusal)
+    }
+}
+
+impl From<Refusal> for LineRefusal {
+    ghost from_gives = { λ before after. after ≡ ByCall before };
+
+    fn from(refusal: Refusal) -> LineRefusal {
+        LineRefusal::Call(refusal)
+    }
+}
 
 #[derive(Clone, Copy, PartialEq, Eq, Debug)]
 pub enum Reply {
     /// Accepted, and nothing is printed.
     Silent,
-    /// Refused, by this number.
-    Refused(u32),
+    Refused(LineRefusal),
     /// An accepted seal: how many legs the turn has, and its last tick.
-    Sealed(usize, u32),
+    Sealed { legs: usize, ticks: u32 },
 }
 
 impl Reply {
@@ -21,13 +59,13 @@ impl Reply {
     pub(crate) fn no_form() -> Reply
         ensures { result ≡ the_no_form }
     {
-        Reply::Refused(TextRefusal::NoForm.number())
+        Reply::Refused(TextRefusal::NoForm.into())
     }
 
     pub(crate) fn out_of_place() -> Reply
         ensures { result ≡ the_out_of_place }
     {
-        Reply::Refused(TextRefusal::OutOfPlace.number())
+        Reply::Refused(TextRefusal::OutOfPlace.into())
     }
 
     /// Prints the answer to the line of this number, and answers how many octets that takes.
@@ -39,8 +77,8 @@ impl Reply {
         }
         match self {
             Reply::Silent => Ok(0),
-            Reply::Refused(number) => print_refused(number, line, buffer),
-            Reply::Sealed(legs, ticks) => print_sealed(legs, ticks, buffer),
+            Reply::Refused(refusal) => print_refused(refusal.number(), line, buffer),
+            Reply::Sealed { legs, ticks } => print_sealed(legs, ticks, buffer),
         }
     }
 }

@@ -59,14 +59,12 @@ impl Session {
         ensures same { self.new.heard ≡ self.old.heard }
         ensures failed { IfErr result (λ _. self.new ≡ self.old) }
     {
-        match parse(alloc, line)? {
-            None => Ok(Reply::no_form()),
-            Some(form) => {
-                let stage = mem::replace(&mut self.stage, Stage::Waiting);
-                let (stage, reply) = stage.hear(alloc, &form);
-                self.stage = stage;
-                reply
-            }
-        }
+        let Some(form) = parse(alloc, line)? else {
+            return Ok(Reply::no_form());
+        };
+        let stage = mem::replace(&mut self.stage, Stage::Waiting);
+        let (stage, reply) = stage.hear(alloc, &form);
+        self.stage = stage;
+        reply
     }
 }

@@ -9,9 +9,9 @@ pub mod Heads
 pub mod Points
 pub mod Grammars
 pub mod OneForm
-pub mod Over
 pub mod Spacing
 pub mod Sizes
 pub mod Begun
 pub mod LegLines
 pub mod Cuts
+pub mod Tokens

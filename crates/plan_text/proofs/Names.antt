@@ -1,27 +1,12 @@
--- The names that forms have.
-use Rattle.std.proofs.Common.{◌≡◌, ℕ, suc, ◌<◌, List, [], ◌∷◌, length, get_or, ℤ, pos, negsuc, codes, decimal, sym, refl, ap, subst, arith}
-use Rattle.std.specs.Str.Parse.{AllDigits}
-use Rattle.std.proofs.lemmas.Str.Parse.{digit_from_value}
-use Rattle.std.proofs.lemmas.Fmt.{decimal_is_IsNumeral}
-use Rattle.decimal.specs.Numbers.{text_of, HasFewDigits}
-use Rattle.plan_text.specs.declared.form.Kind.{Kind}
-use Rattle.plan_text.specs.declared.form.Kind.TheVariants.{Flow, Box}
-use Rattle.plan_text.specs.declared.form.Legs.{Legs}
-use Rattle.plan_text.specs.declared.form.Legs.TheVariants.{Chord, Matching}
-use Rattle.plan_text.specs.declared.head.Head.{Head}
-use Rattle.plan_text.specs.declared.head.Head.TheVariants.{Turn, Span, Strike, Seal}
-use Rattle.plan_text.specs.Lexing.{ArePlain, IsWord}
-use Rattle.plan_text.specs.Forms.{kind_word, legs_word}
-use Rattle.plan_text.specs.Reading.{head_word}
-use Rattle.plan_text.proofs.Taken.{head_same}
-
--- a word whose first octet is past the digits is no number
-pub name_word : (b : ℕ) (bs : List ℕ) → 57 < b → ArePlain (b ∷ bs) → IsWord (b ∷ bs)
-name_word b bs h p = (omega arith, p, no_number)
-  where
-    no_number : (z : ℤ) → HasFewDigits z → b ∷ bs ≡ text_of z → ⊥
-    no_number (pos n) s e = let d = subst (AllDigits 10) (sym e) (decimal_is_IsNumeral n (omega arith)).0.1 in omega (arith, (digit_from_value b d.0).1)
-    no_number (negsuc n) s e = omega (arith, head_same b 45 bs (decimal (suc n)) e)
+-- The names that the parts of forms have.
+use Rattle.std.proofs.Common.{◌≡◌, ◌≢◌, ℕ, List, [], ◌∷◌, All, Contains, Option, Some, None, MatchOption, Bool, true, false, codes, sym, refl, ◌∙◌, arith}
+use Rattle.std.specs.List.{find}
+use Rattle.std.specs.Str.{bytes_eq}
+use Rattle.std.proofs.lemmas.List.Elements.{All-nil, All-cons, All-contains}
+use Rattle.std.proofs.lemmas.Slice.Eq.{bytes_eq-Decides}
+use Rattle.std.proofs.lemmas.Bool.{false≢true}
+use Rattle.plan_text.specs.Lexing.{IsWord}
+use Rattle.plan_text.specs.Laws.Words.{name_word}
 
 pub kind_is_word : IsWord (codes "kind")
 kind_is_word = name_word 107 (105 ∷ 110 ∷ 100 ∷ []) (omega arith) (refl, (refl, (refl, (refl, tt))))
@@ -41,50 +26,28 @@ ticks_word = name_word 116 (105 ∷ 99 ∷ 107 ∷ 115 ∷ []) (omega arith) (re
 pub at_word : IsWord (codes "at")
 at_word = name_word 97 (116 ∷ []) (omega arith) (refl, (refl, tt))
 
-pub kinds_are_words : (k : Kind) → IsWord (kind_word k)
-kinds_are_words Flow = name_word 102 (108 ∷ 111 ∷ 119 ∷ []) (omega arith) (refl, (refl, (refl, (refl, tt))))
-kinds_are_words Box = name_word 98 (111 ∷ 120 ∷ []) (omega arith) (refl, (refl, (refl, tt)))
+-- ---- the value that a word stands for
 
-pub legs_are_words : (g : Legs) → IsWord (legs_word g)
-legs_are_words Chord = name_word 99 (104 ∷ 111 ∷ 114 ∷ 100 ∷ []) (omega arith) (refl, (refl, (refl, (refl, (refl, tt)))))
-legs_are_words Matching = name_word 109 (97 ∷ 116 ∷ 99 ∷ 104 ∷ 105 ∷ 110 ∷ 103 ∷ []) (omega arith) (refl, (refl, (refl, (refl, (refl, (refl, (refl, (refl, tt))))))))
+module _ {W : Type 0} (text : W → List ℕ) (octets : List ℕ) where
+  abbrev names : W → Bool
+  names v = bytes_eq (text v) octets
 
-pub kinds_apart : (j k : Kind) → kind_word j ≡ kind_word k → j ≡ k
-kinds_apart Flow Flow e = refl
-kinds_apart Flow Box e = absurd (omega (arith, ap length e))
-kinds_apart Box Flow e = absurd (omega (arith, ap length e))
-kinds_apart Box Box e = refl
+  none_from : (vs : List W) → find names vs ≡ None → All (λ v. octets ≢ text v) vs
+  none_from [] e = All-nil (λ v. octets ≢ text v)
+  none_from (v ∷ vs) e = from_test (names v) refl (λ f. none_from vs f)
+    where
+      from_test : (b : Bool) → names v ≡ b → (find names vs ≡ None → All (λ u. octets ≢ text u) vs) → All (λ u. octets ≢ text u) (v ∷ vs)
+      from_test true h more = absurd (let f : Some v ≡ None = rw h at e in cc)
+      from_test false h more = All-cons (λ u. octets ≢ text u) v vs (λ s. false≢true (sym h ∙ (bytes_eq-Decides (text v) octets).1 (sym s))) (more (rw h at e))
 
-pub legs_apart : (f g : Legs) → legs_word f ≡ legs_word g → f ≡ g
-legs_apart Chord Chord e = refl
-legs_apart Chord Matching e = absurd (omega (arith, ap length e))
-legs_apart Matching Chord e = absurd (omega (arith, ap length e))
-legs_apart Matching Matching e = refl
+  one_from : (vs : List W) (v : W) → find names vs ≡ Some v → octets ≡ text v
+  one_from [] v e = absurd (cc)
+  one_from (u ∷ vs) v e = from_test (names u) refl (λ f. one_from vs v f)
+    where
+      from_test : (b : Bool) → names u ≡ b → (find names vs ≡ Some v → octets ≡ text v) → octets ≡ text v
+      from_test true h more = let f : Some u ≡ Some v = rw h at e in (let g : text u ≡ octets = (bytes_eq-Decides (text u) octets).0 h in cc)
+      from_test false h more = more (rw h at e)
 
-pub heads_are_words : (h : Head) → IsWord (head_word h)
-heads_are_words Turn = name_word 116 (117 ∷ 114 ∷ 110 ∷ []) (omega arith) (refl, (refl, (refl, (refl, tt))))
-heads_are_words Span = name_word 115 (112 ∷ 97 ∷ 110 ∷ []) (omega arith) (refl, (refl, (refl, (refl, tt))))
-heads_are_words Strike = name_word 115 (116 ∷ 114 ∷ 105 ∷ 107 ∷ 101 ∷ []) (omega arith) (refl, (refl, (refl, (refl, (refl, (refl, tt))))))
-heads_are_words Seal = name_word 115 (101 ∷ 97 ∷ 108 ∷ []) (omega arith) (refl, (refl, (refl, (refl, tt))))
-
--- the octet k of a word
-abbrev letter : ℕ → List ℕ → ℕ
-letter k w = get_or w k 0
-
-pub heads_apart : (g h : Head) → head_word g ≡ head_word h → g ≡ h
-heads_apart Turn Turn e = refl
-heads_apart Turn Span e = absurd (omega (arith, ap (letter 0) e))
-heads_apart Turn Strike e = absurd (omega (arith, ap (letter 0) e))
-heads_apart Turn Seal e = absurd (omega (arith, ap (letter 0) e))
-heads_apart Span Turn e = absurd (omega (arith, ap (letter 0) e))
-heads_apart Span Span e = refl
-heads_apart Span Strike e = absurd (omega (arith, ap (letter 1) e))
-heads_apart Span Seal e = absurd (omega (arith, ap (letter 1) e))
-heads_apart Strike Turn e = absurd (omega (arith, ap (letter 0) e))
-heads_apart Strike Span e = absurd (omega (arith, ap (letter 1) e))
-heads_apart Strike Strike e = refl
-heads_apart Strike Seal e = absurd (omega (arith, ap (letter 1) e))
-heads_apart Seal Turn e = absurd (omega (arith, ap (letter 0) e))
-heads_apart Seal Span e = absurd (omega (arith, ap (letter 1) e))
-heads_apart Seal Strike e = absurd (omega (arith, ap (letter 1) e))
-heads_apart Seal Seal e = refl
+  pub found : (vs : List W) → ((v : W) → Contains vs v) → (r : Option W) → r ≡ find names vs → MatchOption r ((v : W) → octets ≢ text v) (λ v. octets ≡ text v)
+  found vs every None e = λ v. All-contains (λ u. octets ≢ text u) vs v (none_from vs (sym e)) (every v)
+  found vs every (Some v) e = one_from vs v (sym e)

@@ -10,7 +10,8 @@ use Rattle.plan_text.specs.Forms.{PlanForm, turn, span, strike, seal, text_of, I
 use Rattle.plan_text.specs.Reading.{turn_marks, at_marks, ats_marks, span_marks}
 use Rattle.plan_text.proofs.Taken.{not_nil}
 use Rattle.plan_text.proofs.Steps.{same_gapped, ends_spelled}
-use Rattle.plan_text.proofs.Names.{kind_is_word, legs_is_word, within_word, depth_word, ticks_word, at_word, kinds_are_words, legs_are_words, kinds_apart, legs_apart, heads_are_words, heads_apart}
+use Rattle.plan_text.specs.Laws.Words.{kinds_are_words, legs_are_words, kinds_apart, legs_apart, heads_are_words, heads_apart}
+use Rattle.plan_text.proofs.Names.{kind_is_word, legs_is_word, within_word, depth_word, ticks_word, at_word}
 use Rattle.plan_text.proofs.Grammars.{head_of, body_of, marks_of, form_spelled}
 
 abbrev AreMarks : List Mark → Type 0

@@ -1,10 +1,10 @@
 -- Parts read one after another.
-use Rattle.std.proofs.Common.{◌≡◌, ℕ, ◌<◌, List, [], ◌∷◌, ◌++◌, length, ℤ, sym, ap, ◌∙◌, append_assoc, arith}
+use Rattle.std.proofs.Common.{◌≡◌, ℕ, ◌<◌, Option, Some, None, MatchOption, List, [], ◌∷◌, ◌++◌, length, ℤ, sym, ap, ◌∙◌, append_assoc, arith}
 use Rattle.decimal.specs.Numbers.{HasFewDigits}
 use Rattle.plan_text.specs.declared.lexer.Lexer.{Lexer}
 use Rattle.plan_text.specs.Tokens.{Mark, closing, word, number, spelled}
-use Rattle.plan_text.specs.Lexing.{IsWord, Steps, Misses, left}
-use Rattle.plan_text.specs.Reading.{Spells, PassesOver, ReadsOne}
+use Rattle.plan_text.specs.Lexing.{IsMark, IsWord, Steps, Misses, left}
+use Rattle.plan_text.specs.Reading.{Spells, PassesOver, Passes, ReadsOne}
 use Rattle.plan_text.proofs.Steps.{only, back, missed, shorter}
 
 pub along : (l : Lexer) (ms ns : List Mark) → ms ≡ ns → Spells l ms → Spells l ns
@@ -22,6 +22,10 @@ passes_both l k l' m n s t =
       on = λ ms e. (only k l' n t n ms t.takes.mark (only l k m s m (n ∷ ms) s.takes.mark e).1).1;
       shorter = omega (arith, shorter l k m s, shorter k l' n t);
     }
+
+pub passes_two : (l k : Lexer) (m n : Mark) (r : Option Lexer) → Steps l m k → IsMark n → MatchOption r (Misses k n) (λ rest. Steps k n rest) → Passes (m ∷ n ∷ []) l r
+passes_two l k m n None s g t = λ ms e. missed k n t ms g (only l k m s m (n ∷ ms) s.takes.mark e).1
+passes_two l k m n (Some rest) s g t = passes_both l k rest m n s t
 
 pub reads_word : (l l' : Lexer) (w : List ℕ) → Steps l (word w) l' → ReadsOne (λ v. word v ∷ []) IsWord l w l'
 reads_word l l' w s =

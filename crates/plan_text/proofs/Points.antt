@@ -1,11 +1,12 @@
 -- Points read one after another.
-use Rattle.std.proofs.Common.{◌≡◌, List, [], ◌∷◌, ◌++◌, ℤ, codes, sym, refl, ap, ◌∙◌, append_assoc, append-nil}
+use Rattle.std.proofs.Common.{◌≡◌, Option, Some, None, Vec, Global, List, [], ◌∷◌, ◌++◌, ℤ, codes, sym, refl, ap, ◌∙◌, append_assoc, append-nil}
+use Rattle.std.specs.Option.{option_map}
 use Rattle.decimal.specs.Numbers.{HasFewDigits}
 use Rattle.plan_text.specs.declared.lexer.Lexer.{Lexer}
 use Rattle.plan_text.specs.declared.form.At.{At}
 use Rattle.plan_text.specs.Tokens.{Mark, closing}
 use Rattle.plan_text.specs.Forms.{IsTypedAt, AreTyped}
-use Rattle.plan_text.specs.Reading.{Spells, ReadsOne, ReadsNone, at_marks, ats_marks, number_marks, span_marks, IsTypedSpan}
+use Rattle.plan_text.specs.Reading.{Spells, Completes, span_of, ReadsOne, ReadsNone, at_marks, ats_marks, number_marks, span_marks, IsTypedSpan}
 use Rattle.plan_text.proofs.Parts.{along, none_take}
 
 -- From l up to k these points were read, and points that stand at l begin with them.
@@ -13,9 +14,6 @@ pub record PointsSoFar (l k : Lexer) (points : List At) : Type 0 where
   pub typed : AreTyped points
   pub back : (ms : List Mark) → Spells k ms → Spells l (ats_marks points ++ ms)
   pub only : (ps : List At) → AreTyped ps → Spells l (ats_marks ps ++ (closing ∷ [])) → (rs : List At) × (ps ≡ points ++ rs) × AreTyped rs × Spells k (ats_marks rs ++ (closing ∷ []))
-
-pub no_point_yet : (l : Lexer) → PointsSoFar l l []
-no_point_yet l = record { typed = tt; back = λ ms s. s; only = λ ps g s. (ps, refl, g, s) }
 
 ats_push : (ps : List At) (p : At) (ms : List Mark) → ats_marks (ps ++ (p ∷ [])) ++ ms ≡ ats_marks ps ++ (at_marks p ++ ms)
 ats_push [] p ms = ap (λ xs. xs ++ ms) (append-nil (at_marks p))
@@ -63,3 +61,8 @@ module _ (l k : Lexer) (ticks : ℤ) (r : ReadsOne (number_marks (codes "ticks")
 
   pub span_read : (ps : List At) → AreTyped ps → Spells k (ats_marks ps ++ (closing ∷ [])) → IsTypedSpan (ticks, ps) × Spells l (span_marks (ticks, ps) ++ (closing ∷ []))
   span_read ps g s = ((r.good, g), r.back (ats_marks ps ++ (closing ∷ [])) s)
+
+  pub span_told : (points : Option (Vec At Global)) → Completes ats_marks AreTyped k (option_map (λ v. v.items) points)
+      → Completes span_marks IsTypedSpan l (option_map span_of (option_map (λ v. record { ticks = ticks; points = v }) points))
+  span_told None n = no_span_points n
+  span_told (Some v) s = span_read v.items s.0 s.1

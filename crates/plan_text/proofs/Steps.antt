@@ -1,6 +1,8 @@
 -- From one mark taken to marks read.
-use Rattle.std.proofs.Common.{◌≡◌, ℕ, ◌<◌, Bool, true, false, List, [], ◌∷◌, ◌++◌, length, ℤ, sym, refl, ap, ◌∙◌, subst, arith, length-append}
+use Rattle.std.proofs.Common.{◌≡◌, ℕ, ◌<◌, Bool, true, false, MatchOption, List, [], ◌∷◌, ◌++◌, length, ℤ, sym, refl, ap, ◌∙◌, subst, arith, length-append}
+use Rattle.std.specs.Bool.{Decides, then_some}
 use Rattle.std.specs.Borrow.{Bor}
+use Rattle.std.proofs.lemmas.Bool.{false≢true}
 use Rattle.plan_text.specs.declared.lexer.Lexer.{Lexer}
 use Rattle.plan_text.specs.declared.token.Token.{Token}
 use Rattle.plan_text.specs.declared.token.Token.TheVariants.{Open, Close, Word, Number}
@@ -69,19 +71,12 @@ shorter l l' m s = omega (arith, some_octets m s.takes.mark, ap length s.takes.w
 pub other : (l l' : Lexer) (m u : Mark) → Steps l m l' → (u ≡ m → ⊥) → Misses l u
 other l l' m u s n rest t = n (same_gapped l.first u m rest (left l') t.mark s.takes.mark t.ends s.takes.ends (sym t.whole ∙ s.takes.whole)).0
 
+-- the mark that stands here is the wanted one, or not
+pub passed : (l k : Lexer) (m u : Mark) (b : Bool) → Steps l m k → Decides b (m ≡ u) → MatchOption (then_some b k) (Misses l u) (λ rest. Steps l u rest)
+passed l k m u true s d = step_over l k m u s (d.0 refl)
+passed l k m u false s d = other l k m u s (λ e. false≢true (d.1 (sym e)))
+
 -- ---- tokens that are not the mark
-
-pub no_opening : (t : Token) → (t ≡ Open → ⊥) → opening ≡ mark_of t → ⊥
-no_opening Open n e = n refl
-no_opening Close n e = cc
-no_opening (Word w) n e = cc
-no_opening (Number z) n e = cc
-
-pub no_closing : (t : Token) → (t ≡ Close → ⊥) → closing ≡ mark_of t → ⊥
-no_closing Open n e = cc
-no_closing Close n e = n refl
-no_closing (Word w) n e = cc
-no_closing (Number z) n e = cc
 
 pub no_word : (t : Token) → ((w : Bor (List ℕ)) → t ≡ Word w → ⊥) → (v : List ℕ) → word v ≡ mark_of t → ⊥
 no_word Open n v e = cc

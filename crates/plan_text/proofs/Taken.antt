@@ -9,7 +9,7 @@ use Rattle.std.proofs.lemmas.List.{drop_more, drop_all, drop-drop, get_or-take, 
 use Rattle.std.proofs.str.Laws.{order}
 use Rattle.std.proofs.lemmas.Bool.Decides.{nat_tests}
 use Rattle.plan_text.specs.Tokens.{Mark, opening, closing, word, number, octets_of}
-use Rattle.plan_text.specs.Lexing.{is_plain_octet, ArePlain, IsStopped, IsMark, Ends, Begins, BeginsWithNone, Starts, Takes, TakesNone}
+use Rattle.plan_text.specs.Lexing.{is_plain_octet, ArePlain, IsStopped, IsMark, Ends, BeginsWithNone, Starts, TakesNone}
 
 plain_above : (b : ℕ) → 41 < b → is_plain_octet b ≡ true
 plain_above b h = grind (arith, nat_tests)
@@ -144,21 +144,7 @@ module _ {text : List ℕ} {at end : ℕ} (run : Run text at end) where
       (λ h. subst IsStopped (sym (drop_all end text h)) tt)
       (order end (length text))
 
-pub other_first : (b c : ℕ) (x y t : List ℕ) → (b ≡ c → ⊥) → t ≡ b ∷ x → t ≡ c ∷ y → ⊥
-other_first b c x y t n p q = n (head_same b c x y (sym p ∙ q))
-
 -- inside a list, after its first item
-pub inner_nil : (t : List ℕ) → t ≡ [] → TakesNone false t
-inner_nil t n opening rest k = omega (arith, ap length (sym n ∙ k.whole))
-inner_nil t n closing rest k = omega (arith, ap length (sym n ∙ k.whole))
-inner_nil t n (word w) rest k = omega (arith, ap length (sym n ∙ k.whole))
-inner_nil t n (number z) rest k = omega (arith, ap length (sym n ∙ k.whole))
-
-pub inner_other : (t : List ℕ) (b : ℕ) (r : List ℕ) → t ≡ b ∷ r → (b ≡ 41 → ⊥) → (b ≡ 32 → ⊥) → TakesNone false t
-inner_other t b r e n m opening rest k = other_first b 32 _ _ t m e k.whole
-inner_other t b r e n m closing rest k = other_first b 41 _ _ t n e k.whole
-inner_other t b r e n m (word w) rest k = other_first b 32 _ _ t m e k.whole
-inner_other t b r e n m (number z) rest k = other_first b 32 _ _ t m e k.whole
 
 pub inner_space_close : (t r : List ℕ) → t ≡ 32 ∷ 41 ∷ r → TakesNone false t
 inner_space_close t r e opening rest k = omega (arith, head_same 41 40 _ _ (tail_same 32 32 _ _ (sym e ∙ k.whole)))
@@ -171,22 +157,3 @@ inner_close t r e opening rest g = (λ k. absurd (omega (arith, head_same 41 40 
 inner_close t r e closing rest g = (λ k. k, λ k. k)
 inner_close t r e (word w) rest g = (λ k. absurd (clash 41 r w rest refl g.0 g.1 (sym e ∙ k)), λ k. absurd (omega (arith, head_same 41 32 _ _ (sym e ∙ k))))
 inner_close t r e (number z) rest g = (λ k. absurd (clash 41 r (text_of z) rest refl (some_signed z g) (plain_signed z g) (sym e ∙ k)), λ k. absurd (omega (arith, head_same 41 32 _ _ (sym e ∙ k))))
-
-pub inner_space : (t r : List ℕ) → t ≡ 32 ∷ r → ((x : List ℕ) → r ≡ 41 ∷ x → ⊥) → Starts false t r
-inner_space t r e n opening rest g = (λ k. e ∙ ap (λ l. 32 ∷ l) k, λ k. tail_same 32 32 _ _ (sym e ∙ k))
-inner_space t r e n closing rest g = (λ k. absurd (n rest k), λ k. absurd (omega (arith, head_same 32 41 _ _ (sym e ∙ k))))
-inner_space t r e n (word w) rest g = (λ k. e ∙ ap (λ l. 32 ∷ l) k, λ k. tail_same 32 32 _ _ (sym e ∙ k))
-inner_space t r e n (number z) rest g = (λ k. e ∙ ap (λ l. 32 ∷ l) k, λ k. tail_same 32 32 _ _ (sym e ∙ k))
-
--- what `token_at` finds where a mark may begin is what the lexer takes
-pub taken : (first : Bool) (t after : List ℕ) (m : Mark) (rest : List ℕ) → Starts first t after → Begins after m rest → Takes first t m rest
-taken first t after m rest s k = record { mark = k.mark; ends = k.ends; whole = (s m rest k.mark).0 k.whole }
-
-pub none_taken : (first : Bool) (t after : List ℕ) → Starts first t after → BeginsWithNone after → TakesNone first t
-none_taken first t after s n m rest k = n m rest (record { mark = k.mark; ends = k.ends; whole = (s m rest k.mark).1 k.whole })
-
-pub past_no : (text : List ℕ) (at b : ℕ) → length text ≤ at → (x : List ℕ) → drop at text ≡ b ∷ x → ⊥
-past_no text at b h x e = omega (arith, ap length (sym (drop_all at text h) ∙ e))
-
-pub there_no : (text : List ℕ) (at b : ℕ) → at < length text → (get_or text at 0 ≡ b → ⊥) → (x : List ℕ) → drop at text ≡ b ∷ x → ⊥
-there_no text at b h n x e = n (head_same _ b _ x (sym (drop_more text at 0 h) ∙ e))

@@ -18,10 +18,19 @@ pub(crate) struct Lexer<'a> {
 fn is_plain(octet: u8) -> bool
     ensures { result ≡ is_plain_octet octet }
 {
-    if octet == b'(' || octet == b')' {
-        return false;
-    }
-    octet != b' '
+    !matches!(octet, b'(' | b')' | b' ')
+}
+
+/// How many plain octets stand in front.
+fn run_length(octets: &[u8]) -> usize
+    ensures within { result ≤ length octets.now }
+    ensures all { (k : ℕ) → k < result → is_plain_octet (slice_index octets.now k) ≡ true }
+    ensures stops { result < length octets.now → is_plain_octet (slice_index octets.now result) ≡ false }
+{
+    octets
+        .iter()
+        .position(|octet| !is_plain(*octet))
+        .unwrap_or(octets.len())
 }
 
 /// Where the run of plain octets from `place` on ends.
@@ -31,14 +40,7 @@ fn run_end(line: &[u8], place: usize) -> usize
     ensures all { (k : ℕ) → place ≤ k → k < result → is_plain_octet (slice_index line.now k) ≡ true }
     ensures stops { result < length line.now → is_plain_octet (slice_index line.now result) ≡ false }
 {
-    let mut end = place;
-    while end < line.len() {
-        if !is_plain(line[end]) {
-            return end;
-        }
-        end += 1;
-    }
-    end
+    place + run_length(&line[place..])
 }
 
 /// The token that begins at `place`, and where it ends.
@@ -94,15 +96,12 @@ fn token_start(line: &[u8], place: usize, first: bool) -> Option<usize>
 fn opens_list(token: Token<'_>) -> bool
     ensures { result ≡ opens (mark_of token.entry) }
 {
-    match token {
-        Token::Open => true,
-        _ => false,
-    }
+    matches!(token, Token::Open)
 }
 
 impl<'a> Lexer<'a> {
     ghost use Rattle.std.specs.Prelude.{◌≡◌, ℕ, true, List, drop, ℤ, MatchOption};
-    ghost use Rattle.plan_text.specs.Tokens.{mark_of, opening, closing, word as word_mark, number as number_mark};
+    ghost use Rattle.plan_text.specs.Tokens.{mark_of, word as word_mark, number as number_mark};
     ghost use Rattle.plan_text.specs.Lexing.{left, Begins, TakesNone, Steps, Misses};
 
     /// The beginning of a line.
@@ -133,28 +132,15 @@ impl<'a> Lexer<'a> {
         Some((Part { token, place }, rest))
     }
 
-    /// The lexer behind a bracket that opens a list.
-    pub(crate) fn opening(self) -> Option<Lexer<'a>>
-        ensures { MatchOption result (Misses self.entry opening) (λ rest. Steps self.entry opening rest) }
+    /// The lexer behind the token, if that is the next.
+    pub(crate) fn pass(self, token: Token<'_>) -> Option<Lexer<'a>>
+        ensures { MatchOption result (Misses self.entry (mark_of token.entry)) (λ rest. Steps self.entry (mark_of token.entry) rest) }
     {
         let (part, rest) = self.next()?;
-        match part.token {
-            Token::Open => Some(rest),
-            _ => None,
-        }
+        (part.token == token).then_some(rest)
     }
 
-    /// The lexer behind a bracket that closes a list.
-    pub(crate) fn closing(self) -> Option<Lexer<'a>>
-        ensures { MatchOption result (Misses self.entry closing) (λ rest. Steps self.entry closing rest) }
-    {
-        let (part, rest) = self.next()?;
-        match part.token {
-            Token::Close => Some(rest),
-            _ => None,
-        }
-    }
-
+    /// The word that is next. (A number is of another type, so one function for both would be given how to pick it.)
     pub(crate) fn word(self) -> Option<(&'a [u8], Lexer<'a>)>
         ensures { MatchOption result
             ((w : List ℕ) → Misses self.entry (word_mark w))

@@ -11,6 +11,7 @@ pub mod lines;
 pub mod notation;
 pub mod parse;
 pub mod print;
-mod put;
+mod printer;
 pub mod refusal;
 mod token;
+pub mod word;

@@ -7,26 +7,26 @@ ghost use Rattle.plan_text.specs.Forms.{PlanForm, form_of, text_of, IsTyped, Are
 
 use crate::form::{At, Form, SpanForm, TurnForm};
 use crate::head::{Head, read_head};
-use crate::items::{at_item, kind_item, legs_item, number_item};
+use crate::items::{at_item, number_item, value_item};
 use crate::lexer::Lexer;
+use crate::token::Token;
 use std::alloc::{AllocError, Global};
 
 /// Whether nothing but the bracket that closes the form is left of the line.
 fn is_closed(lexer: Lexer<'_>) -> bool
     ensures { IsTrue result ↔ Spells lexer.entry (closing ∷ []) }
 {
-    match lexer.closing() {
-        Some(rest) => rest.place >= rest.line.len(),
-        None => false,
-    }
+    lexer
+        .pass(Token::Close)
+        .is_some_and(|rest| rest.place >= rest.line.len())
 }
 
 /// A turn, behind its name.
 fn read_turn(lexer: Lexer<'_>) -> Option<TurnForm>
     ensures { Completes turn_marks IsTypedTurn lexer.entry result }
 {
-    let (kind, rest) = kind_item(lexer)?;
-    let (legs, rest) = legs_item(rest)?;
+    let (kind, rest) = value_item(lexer, b"kind")?;
+    let (legs, rest) = value_item(rest, b"legs")?;
     let (within, rest) = number_item(rest, b"within")?;
     let (depth, rest) = number_item(rest, b"depth")?;
     let (ticks, rest) = number_item(rest, b"ticks")?;
@@ -65,10 +65,8 @@ fn read_span(alloc: Global, lexer: Lexer<'_>) -> Result<Option<SpanForm>, AllocE
     let Some((ticks, rest)) = number_item(lexer, b"ticks") else {
         return Ok(None);
     };
-    let Some(points) = read_points(alloc, rest)? else {
-        return Ok(None);
-    };
-    Ok(Some(SpanForm { ticks, points }))
+    let points = read_points(alloc, rest)?;
+    Ok(points.map(|points| SpanForm { ticks, points }))
 }
 
 fn read_form(alloc: Global, line: &[u8]) -> Result<Option<Form>, AllocError>

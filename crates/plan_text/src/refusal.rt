@@ -35,11 +35,12 @@ impl TextRefusal {
 impl fmt::Display for TextRefusal {
     fn fmt<W: fmt::Write>(&self, f: &mut fmt::Formatter<W>) -> fmt::Result {
         let number = self.number();
-        match self {
-            TextRefusal::NoForm => write!(f, "refused {number}: the line is no form of this turn"),
-            TextRefusal::OutOfPlace => write!(f, "refused {number}: the form is out of place"),
-            TextRefusal::TextTooLong => write!(f, "refused {number}: the text is too long"),
-            TextRefusal::ShortBuffer => write!(f, "refused {number}: the buffer is too short"),
-        }
+        let reason = match self {
+            TextRefusal::NoForm => "the line is no form of this turn",
+            TextRefusal::OutOfPlace => "the form is out of place",
+            TextRefusal::TextTooLong => "the text is too long",
+            TextRefusal::ShortBuffer => "the buffer is too short",
+        };
+        write!(f, "refused {number}: {reason}")
     }
 }

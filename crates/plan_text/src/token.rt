@@ -1,7 +1,7 @@
 //! The parts of a line.
 
 /// A bracket, a word or a number. A word borrows its octets from the line.
-#[derive(Clone, Copy)]
+#[derive(Clone, Copy, PartialEq, Eq)]
 pub(crate) enum Token<'a> {
     Open,
     Close,

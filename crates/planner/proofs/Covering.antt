@@ -1,10 +1,13 @@
 -- Looking for the first leg that covers a tick, from the first leg on.
-use Rattle.std.specs.Prelude.{◌≡◌, ℕ, zero, suc, ◌<◌, ◌≤◌, List, [], ◌∷◌, length, take, ℤ, pos, negsuc, ◌<ℤ◌, ◌≤ℤ◌, None, Some, refl}
+use Rattle.std.specs.Prelude.{◌≡◌, ℕ, zero, suc, ◌<◌, ◌≤◌, List, [], ◌∷◌, length, take, ℤ, pos, negsuc, ◌<ℤ◌, ◌≤ℤ◌, None, Option, Some, refl}
 use Rattle.std.proofs.Common.{ap, arith, get_or, inl, inr, subst}
 use lib.IntN.{nat_abs}
 use Rattle.std.proofs.lemmas.Int.{ints}
 use Rattle.std.proofs.lemmas.List.{take_all}
+use Rattle.std.specs.Option.{ok_or}
 use Rattle.ordinate.specs.Kinds.{Kind}
+use Rattle.leg.specs.Reasons.{First, because, refusal}
+use Rattle.turn.specs.declared.refusal.Refusal.TheVariants.{NoLegThere}
 use Rattle.leg.specs.declared.leg.Leg.{Leg}
 use Rattle.planner.specs.Telling.{CoversTick, FirstTells, point_at}
 use Rattle.turn.specs.Calls.{whole_ticks}
@@ -31,12 +34,17 @@ module _ {P : Type 0} (K : Kind P) (a : ℤ) where
   none_covers (l ∷ ls) n = inr (n l, none_covers ls n)
 
   -- what is told is told once
-  pub not_none : (ls : List (Leg P)) (p : P) → FirstTells K ls a (Some p) → FirstTells K ls a None → ⊥
+  not_none : (ls : List (Leg P)) (p : P) → FirstTells K ls a (Some p) → FirstTells K ls a None → ⊥
   not_none [] p f g = cc
   not_none (l ∷ ls) p (inl f) (inl g) = let q = g.1 in cc
   not_none (l ∷ ls) p (inl f) (inr g) = g.0 f.0
   not_none (l ∷ ls) p (inr f) (inl g) = let q = g.1 in cc
   not_none (l ∷ ls) p (inr f) (inr g) = not_none ls p f.1 g.1
+
+  -- and decides whether the tick is refused
+  pub told_first : (ls : List (Leg P)) (r : Option P) → FirstTells K ls a r → First (because (FirstTells K ls a None) NoLegThere ∷ []) (refusal (ok_or r NoLegThere))
+  told_first ls None t = inl (NoLegThere, (t, refl), refl)
+  told_first ls (Some p) t = inr ((λ f y. not_none ls p t y.0), refl)
 
 pub below_zero : {P : Type 0} (K : Kind P) (a : ℤ) → a <ℤ pos 0 → (l : Leg P) → CoversTick K l a → ⊥
 below_zero K (pos n) h l w = absurd (omega (arith, ints))

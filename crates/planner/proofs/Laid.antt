@@ -1,5 +1,5 @@
 -- Laying a span: what its checks and the legs that are put say of its reasons.
-use Rattle.std.proofs.Common.{◌≡◌, ℕ, ◌+◌, ◌<◌, false, List, ◌++◌, length, ℤ, pos, ◌+ℤ◌, ◌<ℤ◌, Ok, Some, None, Option, refl, sym, ap, subst, ◌∙◌, inl, inr, arith}
+use Rattle.std.proofs.Common.{◌≡◌, ℕ, ◌+◌, ◌<◌, false, List, ◌++◌, length, ℤ, pos, ◌+ℤ◌, ◌<ℤ◌, Err, Ok, Some, None, Option, refl, sym, ap, subst, ◌∙◌, inl, inr, arith}
 use Rattle.std.proofs.lemmas.Int.{ints}
 use Rattle.std.proofs.lemmas.List.{length-append, length-map}
 use Rattle.std.proofs.lemmas.Option.{none-some, same_Some}
@@ -11,15 +11,13 @@ use Rattle.leg.specs.Reasons.{First}
 use Rattle.outlet.specs.Outlets.{Contents, room}
 use Rattle.curve.specs.Refusals.{point_reasons, put_reasons}
 use Rattle.curve.specs.declared.refusal.CurveRefusal.{CurveRefusal}
-use Rattle.curve.specs.declared.refusal.CurveRefusal.TheVariants as Curve
+use Rattle.curve.specs.declared.refusal.CurveRefusal.TheVariants.{PointCount}
 use Rattle.curve.specs.declared.span.Span.{Span}
 use Rattle.turn.specs.Calls.{Progress, lay}
 use Rattle.turn.specs.Outcomes.{Outcome, legs_for}
 use Rattle.turn.specs.Reasons.{Continues, facing, first_point, last_point, reasons}
-use Rattle.turn.specs.Refusals.{of_curve}
 use Rattle.turn.specs.Settings.{Setting}
-use Rattle.turn.specs.declared.answer.Answer.TheVariants.{Accepted, Refused}
-use Rattle.turn.specs.declared.refusal.Refusal.TheVariants.{Apart}
+use Rattle.turn.specs.declared.refusal.Refusal.TheVariants.{Apart, Curve}
 use Rattle.turn.proofs.Laying.{lay_apart, lay_cells}
 use Rattle.turn.proofs.Reasons.{none_holds}
 use Rattle.planner.specs.Drafts.{halving_begun}
@@ -27,14 +25,14 @@ use Rattle.planner.specs.Steps.{Fits, Puts}
 
 -- no halving is begun where the points refuse
 pub points_not_begun : {P : Type 0} (K : Kind P) (M : Measure) (R : Rule P) (ps : List P) (f : CurveRefusal)
-    → First (point_reasons K M R ps) (Some f) → halving_begun (Refused (of_curve f)) ≡ false
-points_not_begun K M R ps f (inl h) = ap (λ e. halving_begun (Refused (of_curve e))) (same_Some _ _ h.2 ∙ h.1.1)
-points_not_begun K M R ps f (inr (n, inl h)) = ap (λ e. halving_begun (Refused (of_curve e))) (same_Some _ _ h.2 ∙ h.1.2)
+    → First (point_reasons K M R ps) (Some f) → halving_begun (Err (Curve f)) ≡ false
+points_not_begun K M R ps f (inl h) = ap (λ e. halving_begun (Err (Curve e))) (same_Some _ _ h.2 ∙ h.1.1)
+points_not_begun K M R ps f (inr (n, inl h)) = ap (λ e. halving_begun (Err (Curve e))) (same_Some _ _ h.2 ∙ h.1.2)
 points_not_begun K M R ps f (inr (n, inr (m, e))) = absurd (none-some f (sym e))
 
 pub drawn_some : {P : Type 0} (K : Kind P) (M : Measure) (R : Rule P) (ps : List P) → First (point_reasons K M R ps) None → 0 < length ps
 drawn_some K M R ps h =
-    let low : ¬ (length ps < R.lowest + 1) = λ x. (none_holds (point_reasons K M R ps) h).0 Curve.PointCount (inl x, refl) in
+    let low : ¬ (length ps < R.lowest + 1) = λ x. (none_holds (point_reasons K M R ps) h).0 PointCount (inl x, refl) in
     omega arith
 
 module _ {P : Type 0} (A : Setting P) (g : Progress P) (c : Contents P) (ps : List P) (s : Span) (fits : Fits A g c ps s) (work : ℕ) where
@@ -51,15 +49,15 @@ module _ {P : Type 0} (A : Setting P) (g : Progress P) (c : Contents P) (ps : Li
   fits_apart = lay_apart A g c ps (pos s.ticks) work fits.ours fits.drawn some brief in_time
 
   pub fits_cells : Continues g.end_value (first_point A ps) → (o : Option CurveRefusal)
-      → First (put_reasons A.kind A.measure A.rule A.tolerance A.depth ps work (room c)) o → First (reasons A (facing A g c) (lay ps (pos s.ticks) work)) (option_map of_curve o)
+      → First (put_reasons A.kind A.measure A.rule A.tolerance A.depth ps work (room c)) o → First (reasons A (facing A g c) (lay ps (pos s.ticks) work)) (option_map Curve o)
   fits_cells = lay_cells A g c ps (pos s.ticks) work fits.ours fits.drawn some brief in_time
 
   -- the draft as it goes on after its legs are put
   pub laid_outcome : (l : ℤ) → pos s.ticks ≡ l → First (reasons A (facing A g c) (lay ps (pos s.ticks) work)) None
       → (c' : Contents P) → Puts A ps s (Ok tt) c c' → (g' : Progress P) → g'.count ≡ length c'.legs → g'.laid ≡ g.laid + s.ticks → g'.end_value ≡ Some (last_point A ps)
-      → Outcome A (lay ps l work) g c Accepted g' c'
+      → Outcome A (lay ps l work) g c (Ok tt) g' c'
   laid_outcome l e h c' p g' n t v =
-      subst (λ (z : ℤ). Outcome A (lay ps z work) g c Accepted g' c') e
+      subst (λ (z : ℤ). Outcome A (lay ps z work) g c (Ok tt) g' c') e
       (record {
         answer = h;
         effect =

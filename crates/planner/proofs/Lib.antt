@@ -1,7 +1,10 @@
 pub mod Agreed
 pub mod Begun
 pub mod Covering
+pub mod Going
 pub mod Laid
+pub mod Making
+pub mod Ranges
 pub mod Striking
 pub mod Told
 pub mod Worked

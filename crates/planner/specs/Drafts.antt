@@ -5,13 +5,11 @@ use Rattle.distance.specs.Measures.{Measure, blank}
 use Rattle.bezier.specs.Reductions.{Rule}
 use Rattle.leg.specs.Reasons.{Reason, because}
 use Rattle.leg.specs.declared.leg.Leg.{Leg}
-use Rattle.turn.specs.Calls.{Progress}
+use Rattle.turn.specs.Calls.{Answer, Progress}
 use Rattle.turn.specs.Settings.{Setting}
 use Rattle.turn.specs.declared.refusal.Refusal.{Refusal}
-use Rattle.turn.specs.declared.refusal.Refusal.TheVariants.{Tolerance, Depth, End, TooBent, TooManyLegs}
-use Rattle.turn.specs.declared.answer.Answer.{Answer}
-use Rattle.turn.specs.declared.answer.Answer.TheVariants.{Accepted}
-use Rattle.turn.specs.declared.answer.Answer.TheVariants.{Refused as RefusedFor}
+use Rattle.curve.specs.declared.refusal.CurveRefusal.TheVariants.{Tolerance, Depth, TooBent, TooManyLegs}
+use Rattle.turn.specs.declared.refusal.Refusal.TheVariants.{Curve, End}
 use Rattle.planner.specs.declared.begin.Terms.{Terms}
 use Rattle.planner.specs.declared.draft.Draft.{Draft}
 use Rattle.planner.specs.declared.draft.Refused.{Refused}
@@ -20,8 +18,8 @@ use Rattle.planner.specs.declared.sealed.Sealed.{Sealed}
 -- Why a draft is not begun: the tolerance is agreed from 1 to the limit, the depth from 0 to 10, the last tick from 1 to 65,536.
 abbrev pub begin_reasons : Measure → Terms → List (Reason Refusal)
 begin_reasons M terms =
-    because ((terms.tolerance <ℤ pos 1) ⊎ (pos M.limit <ℤ terms.tolerance)) Tolerance
-    ∷ because ((terms.depth <ℤ pos 0) ⊎ (pos 10 <ℤ terms.depth)) Depth
+    because ((terms.tolerance <ℤ pos 1) ⊎ (pos M.limit <ℤ terms.tolerance)) (Curve Tolerance)
+    ∷ because ((terms.depth <ℤ pos 0) ⊎ (pos 10 <ℤ terms.depth)) (Curve Depth)
     ∷ because ((terms.end <ℤ pos 1) ⊎ (pos 65536 <ℤ terms.end)) End
     ∷ []
 
@@ -36,14 +34,15 @@ module _ {P R : Type 0} where
   abbrev pub setting : Kind P → Measure → Rule P → Draft P R → Setting P
   setting K M R d = record { kind = K; measure = M; rule = R; tolerance = d.accuracy.tolerance; depth = d.accuracy.depth; end = d.end }
 
-  -- What a lay or a strike hands back, and what it answered.
+  -- What a call answered, whatever it hands back.
+  abbrev pub answer : {A : Type 0} → Result A (Refused P R) → Answer
+  answer (Ok _) = Ok tt
+  answer (Err r) = Err r.refusal
+
+  -- What a lay or a strike hands back.
   abbrev pub left : Result (Draft P R) (Refused P R) → Draft P R
   left (Ok d) = d
   left (Err r) = r.draft
-
-  abbrev pub answer : Result (Draft P R) (Refused P R) → Answer
-  answer (Ok d) = Accepted
-  answer (Err r) = RefusedFor r.refusal
 
   -- What is agreed never changes, and a refused call hands the draft back as it stood.
   abbrev pub HandsBack : Draft P R → Result (Draft P R) (Refused P R) → Type 0
@@ -54,10 +53,6 @@ module _ {P R : Type 0} where
   abbrev pub seal_left : Result (Sealed P R) (Refused P R) → Progress P
   seal_left (Ok s) = sealed_progress s
   seal_left (Err r) = progress r.draft
-
-  abbrev pub seal_answer : Result (Sealed P R) (Refused P R) → Answer
-  seal_answer (Ok s) = Accepted
-  seal_answer (Err r) = RefusedFor r.refusal
 
   abbrev pub SealKeeps : Draft P R → Result (Sealed P R) (Refused P R) → Type 0
   SealKeeps d (Ok s) = s.end ≡ d.end
@@ -70,10 +65,10 @@ StartsAt S l = l.stretch.from ≡ S
 
 -- The halving of the curve was begun: nothing refused the lay, or only what the halving came to.
 abbrev pub halving_begun : Answer → Bool
-halving_begun Accepted = true
-halving_begun (RefusedFor TooBent) = true
-halving_begun (RefusedFor TooManyLegs) = true
-halving_begun (RefusedFor f) = false
+halving_begun (Ok _) = true
+halving_begun (Err (Curve TooBent)) = true
+halving_begun (Err (Curve TooManyLegs)) = true
+halving_begun (Err f) = false
 
 -- What is left of the work points: once the halving is begun the first W of them end at zero; the others, and all of them where it is not begun, stay.
 abbrev pub work_left : {P : Type 0} → Kind P → Answer → ℕ → List P → List P

@@ -1,19 +1,17 @@
 -- What becomes of a draft by a list of calls.
-use Rattle.std.specs.Prelude.{◌≡◌, ℕ, [], ◌∷◌, ℤ, pos, negsuc, Some, None, Option, Ok, Err, Result}
+use Rattle.std.specs.Prelude.{◌≡◌, ℕ, min, List, [], ◌∷◌, ℤ, pos, negsuc, Some, None, Option, Ok, Err, Result}
 use Rattle.ordinate.specs.Kinds.{Kind}
 use Rattle.distance.specs.Measures.{Measure}
 use Rattle.bezier.specs.Reductions.{Rule}
-use Rattle.turn.specs.Calls.{Call, History, Progress, Seals}
+use Rattle.curve.specs.Refusals.{work_wanted}
+use Rattle.turn.specs.Calls.{Answer, Call, History, Progress, Seals, lay, strike, seal}
 use Rattle.turn.specs.Settings.{Setting}
-use Rattle.turn.specs.declared.answer.Answer.{Answer}
-use Rattle.turn.specs.declared.answer.Answer.TheVariants.{Accepted}
 use Rattle.turn.specs.declared.refusal.Refusal.{Refusal}
-use Rattle.planner.specs.Drafts.{progress, sealed_progress}
+use Rattle.planner.specs.Drafts.{progress, sealed_progress, work_left}
 use Rattle.planner.specs.declared.begin.Terms.{Terms}
 use Rattle.planner.specs.declared.draft.Draft.{Draft}
+use Rattle.planner.specs.declared.draft.Refused.{Refused}
 use Rattle.planner.specs.declared.run.Course.{Course}
-use Rattle.planner.specs.declared.run.Done.{Done}
-use Rattle.planner.specs.declared.run.Done.TheVariants.{Closed, Open}
 use Rattle.planner.specs.declared.run.RunError.{RunError}
 use Rattle.planner.specs.declared.run.RunError.TheVariants.{NoMemory}
 use Rattle.planner.specs.declared.run.RunError.TheVariants.{Refused as TermsRefused}
@@ -51,26 +49,27 @@ module _ {P R : Type 0} where
   first_refusal (Err (TermsRefused f)) = Some f
   first_refusal (Err NoMemory) = None
 
-  -- ---- one call, made
+  -- ---- one call, made from its data
 
-  abbrev pub done_answer : Done P R → Answer
-  done_answer (Open a d) = a
-  done_answer (Closed s) = Accepted
+  -- What a call that hands a turn back leaves.
+  abbrev pub turn_left : Result (Turn P R) (Refused P R) → Turn P R
+  turn_left (Ok t) = t
+  turn_left (Err r) = StillDraft r.draft
 
-  abbrev pub done_progress : Done P R → Progress P
-  done_progress (Open a d) = progress d
-  done_progress (Closed s) = sealed_progress s
+  -- What is agreed never changes, and a refused call hands the draft back as it stood.
+  abbrev pub TurnKeeps : Draft P R → Answer → Turn P R → Type 0
+  TurnKeeps d (Ok _) (StillDraft e) = (e.accuracy ≡ d.accuracy) × (e.end ≡ d.end)
+  TurnKeeps d (Ok _) (NowSealed s) = s.end ≡ d.end
+  TurnKeeps d (Err f) t = t ≡ StillDraft d
 
-  -- What is agreed for the draft is so for what became of it.
-  abbrev pub DoneKeeps : Draft P R → Done P R → Type 0
-  DoneKeeps d (Open a e) = (e.accuracy ≡ d.accuracy) × (e.end ≡ d.end)
-  DoneKeeps d (Closed s) = s.end ≡ d.end
+-- The call, where so many work points are lent: a lay uses no more of them than it may.
+abbrev pub lent : {P : Type 0} → ℕ → Call P → Call P
+lent n (lay ps l work) = lay ps l (min n work)
+lent n strike = strike
+lent n seal = seal
 
-  abbrev pub StaysOpen : Done P R → Type 0
-  StaysOpen (Open a d) = Unit {0}
-  StaysOpen (Closed s) = ⊥
-
-  -- It is closed exactly where the call was a seal, and accepted.
-  abbrev pub DoneIs : Call P → Done P R → Type 0
-  DoneIs call (Open a d) = Seals call a → ⊥
-  DoneIs call (Closed s) = Seals call Accepted
+-- What is left of the lent work points: only a lay uses any.
+abbrev pub work_after : {P : Type 0} → Kind P → Measure → Rule P → ℕ → Call P → Answer → List P → List P
+work_after K M R D (lay ps l work) a points = work_left K a (work_wanted K M R D ps) points
+work_after K M R D strike a points = points
+work_after K M R D seal a points = points

@@ -31,14 +31,8 @@ pub fn begin<P: Distance, R: Reduction<P>>(terms: Terms) -> Result<Draft<P, R>, 
     ensures empty { IfOk result (λ d. progress d ≡ begun) }
     ensures whole { IfOk result (λ d. (c : Contents P) → c.legs ≡ [] → Whole (setting P.Ordinate.kind P.Distance.measure R.Reduction.rule d) [] (progress d) c) }
 {
-    let accuracy = match Accuracy::agreed::<P>(terms.tolerance, terms.depth) {
-        Ok(accuracy) => accuracy,
-        Err(refusal) => return Err(Refusal::from(refusal)),
-    };
-    if terms.end < 1 {
-        return Err(Refusal::End);
-    }
-    if terms.end > 65_536 {
+    let accuracy = Accuracy::agreed::<P>(terms.tolerance, terms.depth)?;
+    if !(1..=65_536).contains(&terms.end) {
         return Err(Refusal::End);
     }
     Ok(Draft {

@@ -1,5 +1,5 @@
 //! Drafts: turns that are still being made.
-ghost use Rattle.std.specs.Prelude.{◌≤◌};
+ghost use Rattle.std.specs.Prelude.{◌≡◌, ◌≤◌};
 
 use curve::accuracy::Accuracy;
 use std::marker::PhantomData;
@@ -26,4 +26,16 @@ pub struct Draft<P, R> {
 pub struct Refused<P, R> {
     pub draft: Draft<P, R>,
     pub refusal: Refusal,
+}
+
+impl<P, R> Draft<P, R> {
+    /// A call that is refused for this hands the draft back.
+    pub(crate) fn refused(self, refusal: Refusal) -> Refused<P, R>
+        ensures { result ≡ record { draft = self; refusal = refusal } }
+    {
+        Refused {
+            draft: self,
+            refusal,
+        }
+    }
 }

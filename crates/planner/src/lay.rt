@@ -1,13 +1,12 @@
 //! Laying a span.
-ghost use Rattle.std.specs.Prelude.{◌≡◌, ℕ, T, ◌∷◌, length, pos, IfErr, IfOk, false, Some as Just};
+ghost use Rattle.std.specs.Prelude.{◌≡◌, ℕ, T, ◌∷◌, length, pos, Err, IfErr, IfOk, false, Some as Just};
 ghost use Rattle.leg.specs.Reasons.{First, refusal as why};
 ghost use Rattle.curve.specs.Refusals.{work_wanted};
-ghost use Rattle.turn.specs.Calls.{History, answer_of};
+ghost use Rattle.turn.specs.Calls.{History};
 ghost use Rattle.turn.specs.Calls.Call.{lay as the_lay};
 ghost use Rattle.turn.specs.Outcomes.{Outcome};
 ghost use Rattle.turn.specs.Reasons.{Continues, facing, reasons};
 ghost use Rattle.turn.specs.Whole.{Whole};
-ghost use Rattle.turn.specs.declared.answer.Answer.TheVariants.{Refused as RefusedFor};
 ghost use Rattle.planner.specs.Drafts.{HandsBack, answer, halving_begun, left, progress, setting, work_left};
 ghost use Rattle.planner.specs.Steps.{Fits, Puts};
 
@@ -32,19 +31,14 @@ impl<P: Distance, R: Reduction<P>> Draft<P, R> {
         ticks: i64,
     ) -> Result<Span, Refusal>
         ensures same { O.Outlet.contents outlet.new ≡ O.Outlet.contents outlet.old }
-        ensures refused { IfErr result (λ f. (halving_begun (RefusedFor f) ≡ false) × ((work : ℕ) → First (reasons (setting P.Ordinate.kind P.Distance.measure R.Reduction.rule self.now) (facing (setting P.Ordinate.kind P.Distance.measure R.Reduction.rule self.now) (progress self.now) (O.Outlet.contents outlet.old)) (the_lay points.now ticks work)) (Just f))) }
+        ensures refused { IfErr result (λ f. (halving_begun (Err f) ≡ false) × ((work : ℕ) → First (reasons (setting P.Ordinate.kind P.Distance.measure R.Reduction.rule self.now) (facing (setting P.Ordinate.kind P.Distance.measure R.Reduction.rule self.now) (progress self.now) (O.Outlet.contents outlet.old)) (the_lay points.now ticks work)) (Just f))) }
         ensures fits { IfOk result (λ s. Fits (setting P.Ordinate.kind P.Distance.measure R.Reduction.rule self.now) (progress self.now) (O.Outlet.contents outlet.old) points.now s × (pos s.ticks ≡ ticks)) }
     {
         if outlet.count() != self.count {
             return Err(Refusal::Foreign);
         }
-        if let Err(refusal) = check_points::<P, R>(points) {
-            return Err(Refusal::from(refusal));
-        }
-        if ticks < 1 {
-            return Err(Refusal::Ticks);
-        }
-        if ticks > MOST_TICKS {
+        check_points::<P, R>(points)?;
+        if !(1..=MOST_TICKS).contains(&ticks) {
             return Err(Refusal::Ticks);
         }
         if ticks > (self.end - self.laid) as i64 {
@@ -59,7 +53,7 @@ impl<P: Distance, R: Reduction<P>> Draft<P, R> {
         ensures no { Continues self.now.last point → T result }
     {
         match self.last {
-            Some(last) => point.equal(last),
+            Some(last) => point == last,
             None => true,
         }
     }
@@ -75,15 +69,13 @@ impl<P: Distance, R: Reduction<P>> Draft<P, R> {
         requires fits { Fits (setting P.Ordinate.kind P.Distance.measure R.Reduction.rule self.now) (progress self.now) (O.Outlet.contents outlet.old) points.now span }
         ensures first { First (reasons (setting P.Ordinate.kind P.Distance.measure R.Reduction.rule self.now) (facing (setting P.Ordinate.kind P.Distance.measure R.Reduction.rule self.now) (progress self.now) (O.Outlet.contents outlet.old)) (the_lay points.now (pos span.ticks) (length work.old))) (why result) }
         ensures puts { Puts (setting P.Ordinate.kind P.Distance.measure R.Reduction.rule self.now) points.now span result (O.Outlet.contents outlet.old) (O.Outlet.contents outlet.new) }
-        ensures work { work.new ≡ work_left P.Ordinate.kind (answer_of (why result)) (work_wanted P.Ordinate.kind P.Distance.measure R.Reduction.rule self.now.accuracy.depth points.now) work.old }
+        ensures work { work.new ≡ work_left P.Ordinate.kind result (work_wanted P.Ordinate.kind P.Distance.measure R.Reduction.rule self.now.accuracy.depth points.now) work.old }
     {
         if !self.continues_at(points[0]) {
             return Err(Refusal::Apart);
         }
-        match put::<P, R, O>(points, self.accuracy, span, work, outlet) {
-            Ok(_) => Ok(()),
-            Err(refusal) => Err(Refusal::from(refusal)),
-        }
+        put::<P, R, O>(points, self.accuracy, span, work, outlet)?;
+        Ok(())
     }
 
     /// Lays a span: puts the legs of the curve of these points, over so many ticks, at the end of the draft. The work points are lent: those that are used, as many as the points for each depth from 0 to the agreed one, are left at zero.
@@ -102,18 +94,10 @@ impl<P: Distance, R: Reduction<P>> Draft<P, R> {
     {
         let span = match self.next_span::<O>(outlet, points, ticks) {
             Ok(span) => span,
-            Err(refusal) => {
-                return Err(Refused {
-                    draft: self,
-                    refusal,
-                })
-            }
+            Err(refusal) => return Err(self.refused(refusal)),
         };
         if let Err(refusal) = self.put_span::<O>(outlet, points, span, work) {
-            return Err(Refused {
-                draft: self,
-                refusal,
-            });
+            return Err(self.refused(refusal));
         }
         Ok(Draft {
             accuracy: self.accuracy,

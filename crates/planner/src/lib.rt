@@ -4,6 +4,7 @@
 pub mod begin;
 pub mod draft;
 pub mod lay;
+pub mod make;
 pub mod run;
 pub mod seal;
 pub mod sealed;

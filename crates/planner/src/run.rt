@@ -1,22 +1,23 @@
 //! Lists of calls, performed one after another.
 ghost use Rattle.std.specs.Prelude.{◌≡◌, ◌≤◌, [], IfOk, IfErr, length, vec_capacity};
 ghost use Rattle.leg.specs.Reasons.{First, refusal as why};
-ghost use Rattle.turn.specs.Calls.{begun, call_of, calls_of};
-ghost use Rattle.turn.specs.Calls.Call.{lay as the_lay, seal as the_seal, strike as the_strike};
-ghost use Rattle.turn.specs.Outcomes.{Outcome};
+ghost use Rattle.turn.specs.Calls.{begun, calls_of};
 ghost use Rattle.turn.specs.Runs.{Performed, recorded};
 ghost use Rattle.turn.specs.Whole.{Whole};
 ghost use Rattle.planner.specs.Drafts.{begin_reasons, progress, setting};
-ghost use Rattle.planner.specs.Runs.{DoneIs, DoneKeeps, StaysOpen, TurnAfter, agreed, done_answer, done_progress, first_refusal, turn_progress};
+ghost use Rattle.planner.specs.declared.run.RunError.TheVariants.{NoMemory as NoRoom, Refused as TermsRefused};
+ghost use Rattle.planner.specs.Runs.{TurnAfter, agreed, first_refusal, turn_progress};
 
 use crate::begin::{Terms, begin};
 use crate::draft::Draft;
 use crate::sealed::Sealed;
 use bezier::reduction::Reduction;
+use curve::limits::MOST_WORK;
 use distance::measure::Distance;
 use outlet::outlet::Outlet;
-use std::alloc::Global;
-use turn::answer::Answer;
+use std::alloc::{AllocError, Global};
+use std::error::Error;
+use std::fmt;
 use turn::call::Call;
 use turn::refusal::Refusal;
 
@@ -30,7 +31,7 @@ pub enum Turn<P, R> {
 /// What became of a list of calls: an answer for each that was made, and the turn.
 #[derive(Drop)]
 pub struct Course<P, R> {
-    pub answers: Vec<Answer>,
+    pub answers: Vec<Result<(), Refusal>>,
     pub turn: Turn<P, R>,
 }
 
@@ -43,84 +44,31 @@ pub enum RunError {
     NoMemory,
 }
 
-/// As many work points as any curve wants: a row for each depth from 0 to 10, for nine points at the most.
-const MOST_WORK: usize = 99;
-
-/// One call, made: the draft is still open, with this answer, or it is sealed.
-#[derive(Drop)]
-enum Done<P, R> {
-    Open(Answer, Draft<P, R>),
-    Closed(Sealed<P, R>),
-}
-
-/// Lays with as many of the work points as the call may use.
-fn perform_lay<P: Distance, R: Reduction<P>, O: Outlet<P>>(
-    draft: Draft<P, R>,
-    outlet: &mut O,
-    points: &[P],
-    ticks: i64,
-    work: usize,
-    room: &mut [P],
-) -> Done<P, R>
-    requires { 99 ≤ length room.old }
-    ensures outcome { Outcome (setting P.Ordinate.kind P.Distance.measure R.Reduction.rule draft) (the_lay points.now ticks work) (progress draft) (O.Outlet.contents outlet.old) (done_answer result) (done_progress result) (O.Outlet.contents outlet.new) }
-    ensures same { DoneKeeps draft result }
-    ensures open { StaysOpen result }
-{
-    let used = if work < room.len() { work } else { room.len() };
-    match draft.lay::<O>(outlet, points, ticks, &mut room[..used]) {
-        Ok(draft) => Done::Open(Answer::Accepted, draft),
-        Err(refused) => Done::Open(Answer::Refused(refused.refusal), refused.draft),
+/// As in `begin refused 3: the agreed end is not from 1 to 65536`.
+impl fmt::Display for RunError {
+    fn fmt<W: fmt::Write>(&self, f: &mut fmt::Formatter<W>) -> fmt::Result {
+        match self {
+            Self::Refused(refusal) => write!(f, "begin {refusal}"),
+            Self::NoMemory => write!(f, "out of memory"),
+        }
     }
 }
 
-fn perform_strike<P: Distance, R: Reduction<P>, O: Outlet<P>>(
-    draft: Draft<P, R>,
-    outlet: &mut O,
-) -> Done<P, R>
-    ensures outcome { Outcome (setting P.Ordinate.kind P.Distance.measure R.Reduction.rule draft) the_strike (progress draft) (O.Outlet.contents outlet.old) (done_answer result) (done_progress result) (O.Outlet.contents outlet.new) }
-    ensures same { DoneKeeps draft result }
-    ensures open { StaysOpen result }
-{
-    match draft.strike::<O>(outlet) {
-        Ok(draft) => Done::Open(Answer::Accepted, draft),
-        Err(refused) => Done::Open(Answer::Refused(refused.refusal), refused.draft),
+impl Error for RunError {}
+
+impl From<Refusal> for RunError {
+    ghost from_gives = { λ refusal error. error ≡ TermsRefused refusal };
+
+    fn from(refusal: Refusal) -> RunError {
+        RunError::Refused(refusal)
     }
 }
 
-fn perform_seal<P: Distance, R: Reduction<P>, O: Outlet<P>>(
-    draft: Draft<P, R>,
-    outlet: &mut O,
-) -> Done<P, R>
-    ensures outcome { Outcome (setting P.Ordinate.kind P.Distance.measure R.Reduction.rule draft) the_seal (progress draft) (O.Outlet.contents outlet.old) (done_answer result) (done_progress result) (O.Outlet.contents outlet.new) }
-    ensures same { DoneKeeps draft result }
-    ensures sealed { DoneIs the_seal result }
-{
-    match draft.seal::<O>(outlet) {
-        Ok(sealed) => Done::Closed(sealed),
-        Err(refused) => Done::Open(Answer::Refused(refused.refusal), refused.draft),
-    }
-}
+impl From<AllocError> for RunError {
+    ghost from_gives = { λ _ error. error ≡ NoRoom };
 
-fn perform<P: Distance, R: Reduction<P>, O: Outlet<P>>(
-    draft: Draft<P, R>,
-    outlet: &mut O,
-    call: &Call<'_, P>,
-    room: &mut [P],
-) -> Done<P, R>
-    requires { 99 ≤ length room.old }
-    ensures outcome { Outcome (setting P.Ordinate.kind P.Distance.measure R.Reduction.rule draft) (call_of call.now) (progress draft) (O.Outlet.contents outlet.old) (done_answer result) (done_progress result) (O.Outlet.contents outlet.new) }
-    ensures same { DoneKeeps draft result }
-    ensures sealed { DoneIs (call_of call.now) result }
-{
-    match call {
-        Call::Lay {
-            points,
-            ticks,
-            work,
-        } => perform_lay::<P, R, O>(draft, outlet, points, *ticks, *work, room),
-        Call::Strike => perform_strike::<P, R, O>(draft, outlet),
-        Call::Seal => perform_seal::<P, R, O>(draft, outlet),
+    fn from(_error: AllocError) -> RunError {
+        RunError::NoMemory
     }
 }
 
@@ -130,7 +78,7 @@ fn perform_all<P: Distance, R: Reduction<P>, O: Outlet<P>>(
     outlet: &mut O,
     calls: &[Call<'_, P>],
     room: &mut [P],
-    answers: Vec<Answer>,
+    answers: Vec<Result<(), Refusal>>,
 ) -> Course<P, R>
     requires work { 99 ≤ length room.old }
     requires none { answers.items ≡ [] }
@@ -141,13 +89,11 @@ fn perform_all<P: Distance, R: Reduction<P>, O: Outlet<P>>(
     let mut answers = answers;
     let mut draft = draft;
     for call in calls {
-        match perform::<P, R, O>(draft, outlet, call, room) {
-            Done::Open(answer, next) => {
-                answers.push_reserved(answer);
-                draft = next;
-            }
-            Done::Closed(sealed) => {
-                answers.push_reserved(Answer::Accepted);
+        let (turn, answer) = draft.make::<O>(outlet, call, room);
+        answers.push_reserved(answer);
+        match turn {
+            Turn::Draft(next) => draft = next,
+            Turn::Sealed(sealed) => {
                 return Course {
                     answers,
                     turn: Turn::Sealed(sealed),
@@ -175,15 +121,8 @@ pub fn run<P: Distance, R: Reduction<P>, O: Outlet<P>>(
     ensures turn { IfOk result (λ r. TurnAfter (recorded [] (calls_of calls.now) r.answers.items) r.turn) }
     ensures whole { IfOk result (λ r. (O.Outlet.contents outlet.old).legs ≡ [] → Whole (agreed P.Ordinate.kind P.Distance.measure R.Reduction.rule terms) (recorded [] (calls_of calls.now) r.answers.items) (turn_progress r.turn) (O.Outlet.contents outlet.new)) }
 {
-    let draft = match begin::<P, R>(terms) {
-        Ok(draft) => draft,
-        Err(refusal) => return Err(RunError::Refused(refusal)),
-    };
-    let Ok(answers) = Vec::with_capacity(heap, calls.len()) else {
-        return Err(RunError::NoMemory);
-    };
-    let Ok(mut room) = vec![in heap; P::zero(); MOST_WORK] else {
-        return Err(RunError::NoMemory);
-    };
+    let draft = begin::<P, R>(terms)?;
+    let answers = Vec::with_capacity(heap, calls.len())?;
+    let mut room = vec![in heap; P::zero(); MOST_WORK]?;
     Ok(perform_all::<P, R, O>(draft, outlet, calls, &mut room, answers))
 }

@@ -4,7 +4,7 @@ ghost use Rattle.turn.specs.Calls.{History};
 ghost use Rattle.turn.specs.Calls.Call.{seal as the_seal};
 ghost use Rattle.turn.specs.Outcomes.{Outcome};
 ghost use Rattle.turn.specs.Whole.{Whole};
-ghost use Rattle.planner.specs.Drafts.{SealKeeps, progress, seal_answer, seal_left, setting};
+ghost use Rattle.planner.specs.Drafts.{SealKeeps, answer, progress, seal_left, setting};
 
 use crate::draft::{Draft, Refused};
 use crate::sealed::Sealed;
@@ -16,37 +16,23 @@ use turn::refusal::Refusal;
 impl<P: Distance, R: Reduction<P>> Draft<P, R> {
     /// Seals the draft: its making ends, if its legs reach the agreed end.
     pub fn seal<O: Outlet<P>>(self, outlet: &mut O) -> Result<Sealed<P, R>, Refused<P, R>>
-        ensures outcome { Outcome (setting P.Ordinate.kind P.Distance.measure R.Reduction.rule self) the_seal (progress self) (O.Outlet.contents outlet.old) (seal_answer result) (seal_left result) (O.Outlet.contents outlet.new) }
+        ensures outcome { Outcome (setting P.Ordinate.kind P.Distance.measure R.Reduction.rule self) the_seal (progress self) (O.Outlet.contents outlet.old) (answer result) (seal_left result) (O.Outlet.contents outlet.new) }
         ensures keeps { (h : History P) → Whole (setting P.Ordinate.kind P.Distance.measure R.Reduction.rule self) h (progress self) (O.Outlet.contents outlet.old)
-            → Whole (setting P.Ordinate.kind P.Distance.measure R.Reduction.rule self) ((the_seal, seal_answer result) ∷ h) (seal_left result) (O.Outlet.contents outlet.new) }
+            → Whole (setting P.Ordinate.kind P.Distance.measure R.Reduction.rule self) ((the_seal, answer result) ∷ h) (seal_left result) (O.Outlet.contents outlet.new) }
         ensures same { SealKeeps self result }
     {
         if outlet.count() != self.count {
-            return Err(Refused {
-                draft: self,
-                refusal: Refusal::Foreign,
-            });
+            return Err(self.refused(Refusal::Foreign));
         }
         if self.laid < self.end {
-            return Err(Refused {
-                draft: self,
-                refusal: Refusal::NotFull,
-            });
+            return Err(self.refused(Refusal::NotFull));
         }
-        let Draft {
-            accuracy: _,
-            end,
-            count,
-            laid,
-            last,
-            reduction,
-        } = self;
         Ok(Sealed {
-            end,
-            count,
-            laid,
-            last,
-            reduction,
+            end: self.end,
+            count: self.count,
+            laid: self.laid,
+            last: self.last,
+            reduction: self.reduction,
         })
     }
 }

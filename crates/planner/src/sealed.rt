@@ -4,6 +4,7 @@ ghost use Rattle.std.specs.Prelude.{◌≤◌};
 use std::marker::PhantomData;
 
 /// A turn whose making has ended: it can be told and listed, and nothing is laid or struck any more. Only sealing a draft makes one.
+/// Like a draft it is plain numbers and one end value, which sealing moves here.
 #[derive(Drop)]
 pub struct Sealed<P, R> {
     /// The last tick of the turn.

@@ -31,17 +31,15 @@ fn before_span<P: Ordinate, O: Outlet<P>>(outlet: &mut O, start: u32, count: usi
     ensures end { result.end ≡ end_of (last_leg (take result.count (O.Outlet.contents outlet.old).legs)) }
     ensures all { (l : LegT P) → last_leg (take result.count (O.Outlet.contents outlet.old).legs) ≡ Just l → StartsAt start l → ⊥ }
 {
-    let mut kept = count;
-    while kept > 0 {
-        if let Some(leg) = outlet.get(kept - 1) {
+    for i in (0..count).rev() {
+        if let Some(leg) = outlet.get(i) {
             if leg.stretch.from != start {
                 return Before {
-                    count: kept,
+                    count: i + 1,
                     end: Some(leg.end),
                 };
             }
         }
-        kept -= 1;
     }
     Before {
         count: 0,
@@ -55,10 +53,7 @@ fn last_of<P: Ordinate, O: Outlet<P>>(outlet: &mut O, count: usize) -> Option<Le
     ensures same { O.Outlet.contents outlet.new ≡ O.Outlet.contents outlet.old }
     ensures value { result ≡ last_leg (O.Outlet.contents outlet.old).legs }
 {
-    if count == 0 {
-        return None;
-    }
-    outlet.get(count - 1)
+    outlet.get(count.checked_sub(1)?)
 }
 
 /// Whether the stretch is the last of its span, of any numbers.
@@ -79,29 +74,17 @@ impl<P: Distance, R: Reduction<P>> Draft<P, R> {
     {
         let count = outlet.count();
         if count != self.count {
-            return Err(Refused {
-                draft: self,
-                refusal: Refusal::Foreign,
-            });
+            return Err(self.refused(Refusal::Foreign));
         }
         let Some(last) = last_of::<P, O>(outlet, count) else {
-            return Err(Refused {
-                draft: self,
-                refusal: Refusal::Empty,
-            });
+            return Err(self.refused(Refusal::Empty));
         };
         let ends = last.stretch.from as u64 + last.stretch.ticks as u64;
         if ends != self.laid as u64 {
-            return Err(Refused {
-                draft: self,
-                refusal: Refusal::Torn,
-            });
+            return Err(self.refused(Refusal::Torn));
         }
         if !is_last_cell(last.stretch) {
-            return Err(Refused {
-                draft: self,
-                refusal: Refusal::Torn,
-            });
+            return Err(self.refused(Refusal::Torn));
         }
         let before = before_span::<P, O>(outlet, last.stretch.from, count);
         outlet.keep(before.count);

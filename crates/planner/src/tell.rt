@@ -15,6 +15,7 @@ fn first_value<P: Distance, O: Outlet<P>>(outlet: &mut O, tick: u32) -> Option<P
     ensures same { O.Outlet.contents outlet.new ≡ O.Outlet.contents outlet.old }
     ensures value { FirstTells P.Ordinate.kind (O.Outlet.contents outlet.old).legs (pos tick) result }
 {
+    // an outlet is asked leg by leg: it is a device, and no iterator
     for i in 0..outlet.count() {
         if let Some(leg) = outlet.get(i) {
             if let Some(point) = value_at(&leg, tick) {
@@ -41,10 +42,7 @@ impl<P: Distance, R> Sealed<P, R> {
         if tick < 0 {
             return Err(Refusal::NoLegThere);
         }
-        match first_value::<P, O>(outlet, tick as u32) {
-            Some(point) => Ok(point),
-            None => Err(Refusal::NoLegThere),
-        }
+        first_value::<P, O>(outlet, tick as u32).ok_or(Refusal::NoLegThere)
     }
 
     /// Leg `i` of the turn, from 0; nothing where `i` is not below their number.

@@ -33,10 +33,9 @@ pub fn value_at<P: Distance>(leg: &Leg<P>, tick: u32) -> Option<P>
         return None;
     }
     let mut point = leg.start;
+    // by index, as a point is no slice of its coordinates
     for i in 0..P::dimension() {
-        let Some(flow) = coordinate_leg(leg, i).value_at(tick) else {
-            return None;
-        };
+        let flow = coordinate_leg(leg, i).value_at(tick)?;
         point = point.with_coordinate(i, flow.value);
     }
     Some(point)

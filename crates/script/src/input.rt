@@ -1,6 +1,10 @@
 //! The script on standard input, line after line.
+ghost use Rattle.std.specs.Io.Iter.{lines_left};
+ghost use Rattle.std.specs.Iterator.{at_most};
+
 use std::io::{self, BufRead, BufReader, Lines, Stdin};
 
+/// The lines that are left, and how many were read.
 #[derive(Drop)]
 pub struct Input {
     lines: Lines<BufReader<Stdin>>,
@@ -19,13 +23,15 @@ impl Input {
     pub fn number(&self) -> u64 {
         self.number
     }
+}
 
-    /// The next line; nothing after the last.
-    pub fn next_text(&mut self) -> io::Result<Option<String>> {
+impl Iterator for Input {
+    type Item = io::Result<String>;
+
+    ghost remaining = { λ input. at_most (lines_left input.lines) };
+
+    fn next(&mut self) -> Option<io::Result<String>> {
         self.number = self.number.saturating_add(1);
-        match self.lines.next() {
-            Some(text) => Ok(Some(text?)),
-            None => Ok(None),
-        }
+        self.lines.next()
     }
 }

@@ -2,6 +2,8 @@
 #![tactic(auto)]
 
 pub mod input;
+pub mod player;
 pub mod shown;
 pub mod start;
 pub mod words;
+pub mod work;

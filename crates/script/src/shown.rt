@@ -7,8 +7,9 @@ use std::alloc::Global;
 
 /// Adds the coordinates, each with a space before it.
 pub fn add_point<P: Ordinate>(text: &mut String, point: P) -> anyhow::Result<()> {
+    // by index, as a point is no slice of its coordinates
     for i in 0..P::dimension() {
-        write!(text, " {}", i64::from_be_bytes(point.octets(i)))?;
+        write!(text, " {}", point.coordinate(i))?;
     }
     Ok(())
 }

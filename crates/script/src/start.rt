@@ -1,18 +1,13 @@
 //! Lines that start an outlet.
-use crate::words::{Words, next_number};
-use anyhow::anyhow;
-use std::alloc::{AllocError, Global};
+use crate::words::Words;
+use anyhow::Context;
+use plan_text::form::Kind;
+use plan_text::word::read_word;
 
 #[derive(Clone, Copy)]
 pub enum Sort {
     Table,
     Card,
-}
-
-#[derive(Clone, Copy)]
-pub enum Kind {
-    Flow,
-    Box,
 }
 
 /// An outlet to be started, of so many records or octets.
@@ -23,23 +18,23 @@ pub struct Start {
     pub size: usize,
 }
 
-fn next_kind(heap: Global, words: &mut Words<'_>) -> anyhow::Result<Kind> {
-    match words.next() {
-        Some("flow") => Ok(Kind::Flow),
-        Some("box") => Ok(Kind::Box),
-        Some(word) => Err(anyhow!(format!(in heap; "'{word}' is no kind: a kind is flow or box")?)),
-        None => Err(anyhow!("there is no kind")),
+fn next_kind(words: &mut Words<'_>) -> anyhow::Result<Kind> {
+    let word = words.next_word().context("there is no kind")?;
+    read_word(word.as_bytes()).context(format_args!("'{word}' is no kind: a kind is flow or box"))
+}
+
+impl Start {
+    /// What the line starts; nothing where it is none that starts an outlet.
+    pub fn from_text(line: &str) -> anyhow::Result<Option<Start>> {
+        let mut words = Words::new(line);
+        let sort = match words.next_word() {
+            Some("table") => Sort::Table,
+            Some("card") => Sort::Card,
+            _ => return Ok(None),
+        };
+        let kind = next_kind(&mut words)?;
+        let size = words.number()?;
+        words.end()?;
+        Ok(Some(Start { sort, kind, size }))
     }
-}
-
-/// What is left of a line after the word for the sort of outlet.
-pub fn next_start(heap: Global, sort: Sort, words: &mut Words<'_>) -> anyhow::Result<Start> {
-    let kind = next_kind(heap, words)?;
-    let size = next_number::<usize>(heap, words)?;
-    Ok(Start { sort, kind, size })
-}
-
-/// Octets for a card, none of them 0, so that any that the card leaves unwritten is seen.
-pub fn used_octets(heap: Global, n: usize) -> Result<Vec<u8>, AllocError> {
-    vec![in heap; 0xa5u8; n]
 }

@@ -1,84 +1,100 @@
 //! The words of a line, which are separated by single spaces.
-use anyhow::anyhow;
+use anyhow::{Context, bail};
 use leg::leg::{Cell, Leg, Stretch};
 use ordinate::kind::Ordinate;
 use std::alloc::Global;
 use std::str::{FromStr, Split};
 
-pub type Words<'a> = Split<'a, char>;
+/// The words that are left of a line.
+#[derive(Drop)]
+pub struct Words<'a> {
+    left: Split<'a, char>,
+}
 
-fn number_of<N: FromStr>(heap: Global, word: &str) -> anyhow::Result<N>
+fn number_of<N: FromStr>(word: &str) -> anyhow::Result<N>
 where
     N::Err: Drop,
 {
-    match word.parse::<N>() {
-        Ok(number) => Ok(number),
-        Err(_) => Err(anyhow!(format!(in heap; "'{word}' is no number that can stand here")?)),
+    word.parse::<N>()
+        .ok()
+        .context(format_args!("'{word}' is no number that can stand here"))
+}
+
+/// The point with these coordinates.
+fn point_of<P: Ordinate>(coordinates: &[i64]) -> P {
+    let mut point = P::zero();
+    for (i, coordinate) in coordinates.iter().enumerate() {
+        point = point.with_coordinate(i, *coordinate);
     }
+    point
 }
 
-pub fn next_number<N: FromStr>(heap: Global, words: &mut Words<'_>) -> anyhow::Result<N>
-where
-    N::Err: Drop,
-{
-    match words.next() {
-        Some(word) => number_of::<N>(heap, word),
-        None => Err(anyhow!("there is a number too few")),
+impl<'a> Words<'a> {
+    pub fn new(line: &'a str) -> Words<'a> {
+        Words {
+            left: line.split(' '),
+        }
     }
-}
 
-/// A point that begins with a coordinate already taken.
-fn point_from<P: Ordinate>(heap: Global, first: i64, words: &mut Words<'_>) -> anyhow::Result<P> {
-    let mut point = P::zero().with(0, first.to_be_bytes());
-    for i in 1..P::dimension() {
-        let coordinate = next_number::<i64>(heap, words)?;
-        point = point.with(i, coordinate.to_be_bytes());
+    /// The next word; nothing at the end of the line.
+    pub fn next_word(&mut self) -> Option<&'a str> {
+        self.left.next()
     }
-    Ok(point)
-}
 
-pub fn next_point<P: Ordinate>(heap: Global, words: &mut Words<'_>) -> anyhow::Result<P> {
-    let first = next_number::<i64>(heap, words)?;
-    point_from::<P>(heap, first, words)
-}
+    pub fn number<N: FromStr>(&mut self) -> anyhow::Result<N>
+    where
+        N::Err: Drop,
+    {
+        number_of(self.left.next().context("there is a number too few")?)
+    }
 
-/// The points that the rest of the line is.
-pub fn rest_of_points<P: Ordinate>(heap: Global, words: &mut Words<'_>) -> anyhow::Result<Vec<P>> {
-    let mut points = Vec::new(heap);
-    // counted, since nothing says that a line ends
-    for _ in 0..u64::MAX {
-        let Some(word) = words.next() else {
-            return Ok(points);
+    pub fn point<P: Ordinate>(&mut self) -> anyhow::Result<P> {
+        let mut point = P::zero();
+        // by index, as a point is no slice of its coordinates
+        for i in 0..P::dimension() {
+            point = point.with_coordinate(i, self.number()?);
+        }
+        Ok(point)
+    }
+
+    /// The points that the rest of the line is.
+    pub fn points<P: Ordinate>(&mut self, heap: Global) -> anyhow::Result<Vec<P>> {
+        let mut coordinates = Vec::new(heap);
+        for word in &mut self.left {
+            coordinates.push(number_of::<i64>(word)?)?;
+        }
+        let each = coordinates.chunks_exact(P::dimension());
+        if each.remainder().len() > 0 {
+            bail!("there is a number too few");
+        }
+        let mut points = Vec::new(heap);
+        for point in each {
+            points.push(point_of(point))?;
+        }
+        Ok(points)
+    }
+
+    pub fn leg<P: Ordinate>(&mut self) -> anyhow::Result<Leg<P>> {
+        let from = self.number()?;
+        let ticks = self.number()?;
+        let cell = Cell {
+            depth: self.number()?,
+            index: self.number()?,
         };
-        let first = number_of::<i64>(heap, word)?;
-        points.push(point_from::<P>(heap, first, words)?)?;
+        Ok(Leg {
+            stretch: Stretch { from, ticks, cell },
+            degree: self.number()?,
+            start: self.point()?,
+            middle: self.point()?,
+            end: self.point()?,
+        })
     }
-    Ok(points)
-}
 
-pub fn next_leg<P: Ordinate>(heap: Global, words: &mut Words<'_>) -> anyhow::Result<Leg<P>> {
-    let from = next_number::<u32>(heap, words)?;
-    let ticks = next_number::<u32>(heap, words)?;
-    let depth = next_number::<u32>(heap, words)?;
-    let index = next_number::<u32>(heap, words)?;
-    let degree = next_number::<u32>(heap, words)?;
-    let start = next_point::<P>(heap, words)?;
-    let middle = next_point::<P>(heap, words)?;
-    let end = next_point::<P>(heap, words)?;
-    let cell = Cell { depth, index };
-    Ok(Leg {
-        stretch: Stretch { from, ticks, cell },
-        degree,
-        start,
-        middle,
-        end,
-    })
-}
-
-/// An error where the line has a word more.
-pub fn end_of_line(heap: Global, words: &mut Words<'_>) -> anyhow::Result<()> {
-    match words.next() {
-        Some(word) => Err(anyhow!(format!(in heap; "'{word}' is a word too many")?)),
-        None => Ok(()),
+    /// An error where the line has a word more.
+    pub fn end(&mut self) -> anyhow::Result<()> {
+        match self.left.next() {
+            Some(word) => bail!("'{word}' is a word too many"),
+            None => Ok(()),
+        }
     }
 }

@@ -1,10 +1,8 @@
 //! What a line of a script asks for.
-use anyhow::anyhow;
+use anyhow::bail;
 use leg::leg::Leg;
 use ordinate::kind::Ordinate;
-use script::start::{Sort, Start, next_start};
-use script::words::{end_of_line, next_leg, next_number};
-use std::alloc::Global;
+use script::words::Words;
 
 /// A call on the outlet that was started last.
 #[derive(Drop)]
@@ -16,25 +14,17 @@ pub enum Call<P> {
     Rewrite(usize),
 }
 
-#[derive(Drop)]
-pub enum Line<P> {
-    Start(Start),
-    Call(Call<P>),
-}
-
-impl<P: Ordinate> Line<P> {
-    pub fn from_text(heap: Global, text: &str) -> anyhow::Result<Line<P>> {
-        let mut words = text.split(' ');
-        let line = match words.next() {
-            Some("table") => Line::Start(next_start(heap, Sort::Table, &mut words)?),
-            Some("card") => Line::Start(next_start(heap, Sort::Card, &mut words)?),
-            Some("put") => Line::Call(Call::Put(next_leg::<P>(heap, &mut words)?)),
-            Some("keep") => Line::Call(Call::Keep(next_number::<usize>(heap, &mut words)?)),
-            Some("get") => Line::Call(Call::Get(next_number::<usize>(heap, &mut words)?)),
-            Some("rewrite") => Line::Call(Call::Rewrite(next_number::<usize>(heap, &mut words)?)),
-            _ => return Err(anyhow!(format!(in heap; "'{text}' is no line of a script")?)),
+impl<P: Ordinate> Call<P> {
+    pub fn from_text(line: &str) -> anyhow::Result<Call<P>> {
+        let mut words = Words::new(line);
+        let call = match words.next_word() {
+            Some("put") => Call::Put(words.leg()?),
+            Some("keep") => Call::Keep(words.number()?),
+            Some("get") => Call::Get(words.number()?),
+            Some("rewrite") => Call::Rewrite(words.number()?),
+            _ => bail!("'{line}' is no line of a script"),
         };
-        end_of_line(heap, &mut words)?;
-        Ok(line)
+        words.end()?;
+        Ok(call)
     }
 }

@@ -1,40 +1,40 @@
 -- Every call has exactly one outcome.
-use Rattle.std.proofs.Common.{◌≡◌, ℕ, ◌+◌, ◌*◌, ◌^◌, ◌<◌, ◌≤◌, ◌⊎◌, List, [], ◌∷◌, ◌++◌, length, pos, ◌+ℤ◌, Some, None, Option, sym, refl, ap, ◌∙◌, subst, subst₂, inl, inr, append-nil, arith}
+use Rattle.std.proofs.Common.{◌≡◌, ℕ, ◌+◌, ◌*◌, ◌^◌, ◌<◌, ◌≤◌, ◌⊎◌, List, [], ◌∷◌, ◌++◌, length, pos, ◌+ℤ◌, Some, None, Option, Ok, Err, sym, refl, ap, ◌∙◌, subst, subst₂, inl, inr, append-nil, arith}
 use Rattle.std.proofs.Math.Decide.{dec_le, dec_lt, ℕ_discrete}
 use Rattle.std.proofs.lemmas.Option.{none-some, same_Some}
 use Rattle.distance.specs.Measures.{Beyond, Inside}
 use Rattle.bezier.specs.Near.{CellNear}
 use Rattle.bezier.proofs.Passing.{passing_is_near}
 use Rattle.leg.specs.Chains.{Each, Last, last_or}
-use Rattle.leg.specs.Reasons.{First, Reason}
+use Rattle.leg.specs.Reasons.{First, Reason, refusal}
 use Rattle.leg.specs.declared.leg.Cell.{Cell}
 use Rattle.leg.specs.declared.leg.Leg.{Leg}
+use Rattle.leg.proofs.Reasoned.{AllSingle, Single, because_single, one_answer}
 use Rattle.outlet.specs.Outlets.{Contents, room, with_legs}
 use Rattle.curve.specs.Cells.{Allowed, halving}
 use Rattle.curve.specs.Fewest.{Divisible, Fewest}
 use Rattle.curve.proofs.Divisions.{halving_is_fewest}
-use Rattle.turn.specs.Calls.{Call, History, Progress, answer_of, end_of, last_leg, lay, refusal_of, seal, strike, whole_ticks}
+use Rattle.turn.specs.Calls.{Answer, Call, History, Progress, answer_of, end_of, last_leg, lay, seal, strike, whole_ticks}
 use Rattle.turn.specs.Claims.{Exact, made_calls}
 use Rattle.turn.specs.Outcomes.{Effect, Laid, Outcome, Struck, legs_for}
 use Rattle.turn.specs.Runs.{Reached}
 use Rattle.turn.specs.Reasons.{Continues, Situation, facing, first_point, last_point, reasons, cell_passes}
 use Rattle.turn.specs.Settings.{LawfulSetting, Setting}
-use Rattle.turn.specs.declared.answer.Answer.{Answer}
-use Rattle.turn.specs.declared.answer.Answer.TheVariants.{Accepted, Refused}
 use Rattle.turn.specs.declared.refusal.Refusal.{Refusal}
-use Rattle.turn.specs.declared.refusal.Refusal.TheVariants.{Foreign, PointCount, PointBeyond, Ticks, PastEnd, Apart, ShortWork, TooBent, TooManyLegs, Empty, Torn, NotFull}
+use Rattle.curve.specs.declared.refusal.CurveRefusal.TheVariants.{PointCount, PointBeyond, ShortWork, TooBent, TooManyLegs}
+use Rattle.turn.specs.declared.refusal.Refusal.TheVariants.{Curve, Foreign, Ticks, PastEnd, Apart, Empty, Torn, NotFull}
 use Rattle.turn.proofs.Points.{beyond_or_inside, dec_less, dec_not, dec_or, dec_point, settled}
-use Rattle.turn.proofs.Reasons.{AllDecided, AllSingle, Decided, Single, because_decided, because_single, none_holds, one_answer, some_answer}
+use Rattle.turn.proofs.Reasons.{AllDecided, Decided, because_decided, none_holds, some_answer}
 use Rattle.turn.proofs.Standing.{fewest_same}
 use Rattle.turn.proofs.Struck.{one_cut}
 
 -- ---- one answer
 
-answer_back : (a : Answer) → answer_of (refusal_of a) ≡ a
-answer_back Accepted = refl
-answer_back (Refused f) = refl
+answer_back : (a : Answer) → answer_of (refusal a) ≡ a
+answer_back (Ok tt) = refl
+answer_back (Err f) = refl
 
-pub same_answer : (a b : Answer) → refusal_of a ≡ refusal_of b → a ≡ b
+pub same_answer : (a b : Answer) → refusal a ≡ refusal b → a ≡ b
 same_answer a b e = sym (answer_back a) ∙ ap answer_of e ∙ answer_back b
 
 module _ {P : Type 0} (A : Setting P) where
@@ -47,23 +47,23 @@ module _ {P : Type 0} (A : Setting P) where
       go (no l) (no k) = omega arith
 
   abbrev beyond_reason : List P → Reason Refusal
-  beyond_reason ps f = (j : ℕ) × Beyond A.kind A.measure.limit ps j × (f ≡ PointBeyond j)
+  beyond_reason ps f = (j : ℕ) × Beyond A.kind A.measure.limit ps j × (f ≡ Curve (PointBeyond j))
 
   beyond_single : (ps : List P) → Single (beyond_reason ps)
-  beyond_single ps e f x y = x.2 ∙ ap PointBeyond (one_place ps x.0 y.0 x.1 y.1) ∙ sym y.2
+  beyond_single ps e f x y = x.2 ∙ ap (λ i. Curve (PointBeyond i)) (one_place ps x.0 y.0 x.1 y.1) ∙ sym y.2
 
   pub all_single : (now : Situation P) (call : Call P) → AllSingle (reasons A now call)
   all_single now (lay ps l work) = (
     because_single _ Foreign,
     (
-      because_single _ PointCount,
+      because_single _ (Curve PointCount),
       (
         beyond_single ps,
         (
           because_single _ Ticks,
           (
             because_single _ PastEnd,
-            (because_single _ Apart, (because_single _ ShortWork, (because_single _ TooBent, (because_single _ TooManyLegs, tt)))),
+            (because_single _ Apart, (because_single _ (Curve ShortWork), (because_single _ (Curve TooBent), (because_single _ (Curve TooManyLegs), tt)))),
           ),
         ),
       ),
@@ -97,16 +97,16 @@ module _ {P : Type 0} (A : Setting P) where
 
   one_effect : (call : Call P) (a : Answer) (g : Progress P) (c : Contents P) (g₁ g₂ : Progress P) (c₁ c₂ : Contents P)
       → Effect A call a g c g₁ c₁ → Effect A call a g c g₂ c₂ → (g₁ ≡ g₂) × (c₁ ≡ c₂)
-  one_effect (lay ps l work) Accepted g c g₁ g₂ c₁ c₂ x y = one_lay ps (whole_ticks l) g c g₁ g₂ c₁ c₂ x y
-  one_effect (lay ps l work) (Refused f) g c g₁ g₂ c₁ c₂ x y = (x.0 ∙ sym y.0, x.1 ∙ sym y.1)
-  one_effect strike Accepted g c g₁ g₂ c₁ c₂ x y = one_strike c g₁ g₂ c₁ c₂ x y
-  one_effect strike (Refused f) g c g₁ g₂ c₁ c₂ x y = (x.0 ∙ sym y.0, x.1 ∙ sym y.1)
+  one_effect (lay ps l work) (Ok tt) g c g₁ g₂ c₁ c₂ x y = one_lay ps (whole_ticks l) g c g₁ g₂ c₁ c₂ x y
+  one_effect (lay ps l work) (Err f) g c g₁ g₂ c₁ c₂ x y = (x.0 ∙ sym y.0, x.1 ∙ sym y.1)
+  one_effect strike (Ok tt) g c g₁ g₂ c₁ c₂ x y = one_strike c g₁ g₂ c₁ c₂ x y
+  one_effect strike (Err f) g c g₁ g₂ c₁ c₂ x y = (x.0 ∙ sym y.0, x.1 ∙ sym y.1)
   one_effect seal a g c g₁ g₂ c₁ c₂ x y = (x.0 ∙ sym y.0, x.1 ∙ sym y.1)
 
   pub one_outcome : (call : Call P) (g : Progress P) (c : Contents P) (a b : Answer) (g₁ g₂ : Progress P) (c₁ c₂ : Contents P)
       → Outcome A call g c a g₁ c₁ → Outcome A call g c b g₂ c₂ → (a ≡ b) × (g₁ ≡ g₂) × (c₁ ≡ c₂)
   one_outcome call g c a b g₁ g₂ c₁ c₂ x y =
-      let q = same_answer a b (one_answer (reasons A (facing A g c) call) (all_single (facing A g c) call) (refusal_of a) (refusal_of b) x.answer y.answer) in
+      let q = same_answer a b (one_answer (reasons A (facing A g c) call) (all_single (facing A g c) call) (refusal a) (refusal b) x.answer y.answer) in
       let e = one_effect call b g c g₁ g₂ c₁ c₂ (subst (λ d. Effect A call d g c g₁ c₁) q x.effect) y.effect in
       (q, e.0, e.1)
 
@@ -141,7 +141,7 @@ module _ {P : Type 0} (A : Setting P) (law : LawfulSetting A) where
   beyond_decided ps = go (beyond_or_inside A.kind A.measure.limit ps)
     where
       go : ((j : ℕ) × Beyond A.kind A.measure.limit ps j) ⊎ Inside A.kind A.measure.limit ps → Decided (beyond_reason A ps)
-      go (inl x) = inl (PointBeyond x.0, (x.0, x.1, refl))
+      go (inl x) = inl (Curve (PointBeyond x.0), (x.0, x.1, refl))
       go (inr f) = inr (λ e x. x.1.beyond (f x.0 x.1.there))
 
   dec_continues : (o : Option P) (p : P) → Dec (Continues o p)
@@ -183,7 +183,7 @@ module _ {P : Type 0} (A : Setting P) (law : LawfulSetting A) where
   all_decided g c (lay ps l work) = (
     because_decided _ Foreign (dec_not _ (ℕ_discrete (length c.legs) g.count)),
     (
-      because_decided _ PointCount (dec_or _ _ (dec_lt (length ps) (A.rule.lowest + 1)) (dec_lt 9 (length ps))),
+      because_decided _ (Curve PointCount) (dec_or _ _ (dec_lt (length ps) (A.rule.lowest + 1)) (dec_lt 9 (length ps))),
       (
         beyond_decided ps,
         (
@@ -193,10 +193,10 @@ module _ {P : Type 0} (A : Setting P) (law : LawfulSetting A) where
             (
               because_decided _ Apart (dec_not _ (dec_continues g.end_value (first_point A ps))),
               (
-                because_decided _ ShortWork (dec_lt work ((A.depth + 1) * length ps)),
+                because_decided _ (Curve ShortWork) (dec_lt work ((A.depth + 1) * length ps)),
                 (
-                  because_decided _ TooBent (dec_not _ (dec_divisible ps)),
-                  (because_decided _ TooManyLegs (dec_crowded ps (room c)), tt),
+                  because_decided _ (Curve TooBent) (dec_not _ (dec_divisible ps)),
+                  (because_decided _ (Curve TooManyLegs) (dec_crowded ps (room c)), tt),
                 ),
               ),
             ),
@@ -293,19 +293,19 @@ module _ {P : Type 0} (A : Setting P) (law : LawfulSetting A) where
         },
       )
 
-  some_effect : (call : Call P) (a : Answer) (g : Progress P) (c : Contents P) → First (reasons A (facing A g c) call) (refusal_of a)
+  some_effect : (call : Call P) (a : Answer) (g : Progress P) (c : Contents P) → First (reasons A (facing A g c) call) (refusal a)
       → (g' : Progress P) × (c' : Contents P) × Effect A call a g c g' c'
-  some_effect (lay ps l work) Accepted g c x =
+  some_effect (lay ps l work) (Ok tt) g c x =
       let n = none_holds (reasons A (facing A g c) (lay ps l work)) x in
-      let low : ¬ (length ps < A.rule.lowest + 1) = λ h. n.1.0 PointCount (inl h, refl) in
-      lay_down ps (whole_ticks l) g c (omega arith) (λ h. n.1.1.1.1.1.1.1.0 TooBent (h, refl))
-  some_effect (lay ps l work) (Refused f) g c x = (g, c, (refl, refl))
-  some_effect strike Accepted g c x =
+      let low : ¬ (length ps < A.rule.lowest + 1) = λ h. n.1.0 (Curve PointCount) (inl h, refl) in
+      lay_down ps (whole_ticks l) g c (omega arith) (λ h. n.1.1.1.1.1.1.1.0 (Curve TooBent) (h, refl))
+  some_effect (lay ps l work) (Err f) g c x = (g, c, (refl, refl))
+  some_effect strike (Ok tt) g c x =
       let n = none_holds (reasons A (facing A g c) strike) x in
       let e = settled (length c.legs ≡ g.count) (ℕ_discrete (length c.legs) g.count) (λ h. n.0 Foreign (h, refl)) in
       let z : ¬ (g.count ≡ 0) = λ h. n.1.0 Empty (h, refl) in
       strike_off c (last_leg c.legs) refl (omega arith)
-  some_effect strike (Refused f) g c x = (g, c, (refl, refl))
+  some_effect strike (Err f) g c x = (g, c, (refl, refl))
   some_effect seal a g c x = (g, c, (refl, refl))
 
   some_outcome : (call : Call P) (g : Progress P) (c : Contents P) → (a : Answer) × (g' : Progress P) × (c' : Contents P) × Outcome A call g c a g' c'
@@ -314,11 +314,11 @@ module _ {P : Type 0} (A : Setting P) (law : LawfulSetting A) where
       go : (o : Option Refusal) × First (reasons A (facing A g c) call) o → (a : Answer) × (g' : Progress P) × (c' : Contents P) × Outcome A call g c a g' c'
       go x =
           let a = answer_of x.0 in
-          let f : First (reasons A (facing A g c) call) (refusal_of a) = subst (First (reasons A (facing A g c) call)) (sym (refusal_back x.0)) x.1 in
+          let f : First (reasons A (facing A g c) call) (refusal a) = subst (First (reasons A (facing A g c) call)) (sym (refusal_back x.0)) x.1 in
           let y = some_effect call a g c f in
           (a, y.0, y.1, record { answer = f; effect = y.2 })
         where
-          refusal_back : (o : Option Refusal) → refusal_of (answer_of o) ≡ o
+          refusal_back : (o : Option Refusal) → refusal (answer_of o) ≡ o
           refusal_back None = refl
           refusal_back (Some f) = refl
 

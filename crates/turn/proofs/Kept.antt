@@ -1,5 +1,5 @@
 -- Every call keeps the promise.
-use Rattle.std.proofs.Common.{◌≡◌, ℕ, zero, suc, ◌+◌, ◌<◌, ◌≤◌, ◌⊎◌, ◌↔◌, List, [], ◌∷◌, ◌++◌, length, ℤ, pos, negsuc, ◌+ℤ◌, ◌<ℤ◌, Some, None, Option, sym, refl, ap, ◌∙◌, subst, inl, inr, arith}
+use Rattle.std.proofs.Common.{◌≡◌, ℕ, zero, suc, ◌+◌, ◌<◌, ◌≤◌, ◌⊎◌, ◌↔◌, List, [], ◌∷◌, ◌++◌, length, ℤ, pos, negsuc, ◌+ℤ◌, ◌<ℤ◌, Some, None, Option, Ok, Err, sym, refl, ap, ◌∙◌, subst, inl, inr, arith}
 use Rattle.std.proofs.Math.Decide.{dec_le}
 use Rattle.std.proofs.lemmas.Int.{ints}
 use Rattle.std.proofs.lemmas.Iterator.Adapters.{option_map_id}
@@ -9,21 +9,20 @@ use Rattle.std.specs.Int.Signed.{lt_z_yes}
 use Rattle.distance.specs.Measures.{Inside}
 use Rattle.bezier.specs.Near.{CellNear}
 use Rattle.leg.specs.Chains.{Each, Joined, Last, last_or}
-use Rattle.leg.specs.Reasons.{First, Reason}
+use Rattle.leg.specs.Reasons.{First, Reason, refusal}
 use Rattle.leg.specs.declared.leg.Cell.{Cell}
 use Rattle.leg.specs.declared.leg.Leg.{Leg}
 use Rattle.outlet.specs.Outlets.{Contents, with_legs}
-use Rattle.turn.specs.Calls.{Call, History, Progress, Seals, Span, after_call, begun, end_of, end_tick, last_leg, lay, refusal_of, seal, span_of, standing, strike, whole_ticks, without_newest}
+use Rattle.turn.specs.Calls.{Answer, Call, History, Progress, Seals, Span, after_call, begun, end_of, end_tick, last_leg, lay, seal, span_of, standing, strike, whole_ticks, without_newest}
 use Rattle.turn.specs.Claims.{StaysWhole}
 use Rattle.turn.specs.Outcomes.{Laid, Outcome, Struck, legs_for}
 use Rattle.turn.specs.Runs.{Performed, Reached, recorded}
 use Rattle.turn.specs.Reasons.{Continues, Situation, after, facing, first_point, last_point, reasons}
 use Rattle.turn.specs.Settings.{Full, LawfulSetting, Setting}
 use Rattle.turn.specs.Whole.{Answered, LegNear, SealedFull, Whole}
-use Rattle.turn.specs.declared.answer.Answer.{Answer}
-use Rattle.turn.specs.declared.answer.Answer.TheVariants.{Accepted, Refused}
 use Rattle.turn.specs.declared.refusal.Refusal.{Refusal}
-use Rattle.turn.specs.declared.refusal.Refusal.TheVariants.{Foreign, PointCount, PointBeyond, PastEnd, Apart, TooManyLegs, Empty, Torn, NotFull, Ticks}
+use Rattle.curve.specs.declared.refusal.CurveRefusal.TheVariants.{PointCount, PointBeyond, TooManyLegs}
+use Rattle.turn.specs.declared.refusal.Refusal.TheVariants.{Curve, Foreign, PastEnd, Apart, Empty, Torn, NotFull, Ticks}
 use Rattle.turn.proofs.Points.{beyond_or_inside, dec_point, settled}
 use Rattle.turn.proofs.Reasons.{AllBeside, Beside, because_beside, first_beside, none_holds}
 use Rattle.turn.proofs.Seams.{run_ends, run_seamless}
@@ -57,23 +56,23 @@ module _ {P : Type 0} (A : Setting P) where
   laid_drawn : (now : Situation P) (ps : List P) (l : ℤ) (work : ℕ) → First (reasons A now (lay ps l work)) None → Drawn (span_of ps l)
   laid_drawn now ps l work f =
       let n = none_holds (reasons A now (lay ps l work)) f in
-      let low : ¬ (length ps < A.rule.lowest + 1) = λ h. n.1.0 PointCount (inl h, refl) in
-      let high : ¬ (9 < length ps) = λ h. n.1.0 PointCount (inr h, refl) in
+      let low : ¬ (length ps < A.rule.lowest + 1) = λ h. n.1.0 (Curve PointCount) (inl h, refl) in
+      let high : ¬ (9 < length ps) = λ h. n.1.0 (Curve PointCount) (inr h, refl) in
       record {
         enough = omega arith;
         few = omega arith;
-        inside = elim (beyond_or_inside A.kind A.measure.limit ps) [ inl x ↦ absurd (n.1.1.0 (PointBeyond x.0) (x.0, x.1, refl)) | inr i ↦ i ];
+        inside = elim (beyond_or_inside A.kind A.measure.limit ps) [ inl x ↦ absurd (n.1.1.0 (Curve (PointBeyond x.0)) (x.0, x.1, refl)) | inr i ↦ i ];
         some = some_ticks l (λ h. n.1.1.1.0 Ticks (inl h, refl));
         brief = few_ticks l (λ h. n.1.1.1.0 Ticks (inr h, refl));
       }
 
-  drawn_after : (capacity : ℕ) (call : Call P) (a : Answer) (ss : List (Span P)) → First (reasons A (after A capacity ss) call) (refusal_of a)
+  drawn_after : (capacity : ℕ) (call : Call P) (a : Answer) (ss : List (Span P)) → First (reasons A (after A capacity ss) call) (refusal a)
       → Each Drawn ss → Each Drawn (after_call call a ss)
-  drawn_after capacity (lay ps l work) Accepted ss f d = (laid_drawn (after A capacity ss) ps l work f, d)
-  drawn_after capacity (lay ps l work) (Refused r) ss f d = d
-  drawn_after capacity strike Accepted [] f d = tt
-  drawn_after capacity strike Accepted (s ∷ ss) f d = d.1
-  drawn_after capacity strike (Refused r) ss f d = d
+  drawn_after capacity (lay ps l work) (Ok tt) ss f d = (laid_drawn (after A capacity ss) ps l work f, d)
+  drawn_after capacity (lay ps l work) (Err r) ss f d = d
+  drawn_after capacity strike (Ok tt) [] f d = tt
+  drawn_after capacity strike (Ok tt) (s ∷ ss) f d = d.1
+  drawn_after capacity strike (Err r) ss f d = d
   drawn_after capacity seal a ss f d = d
 
   pub drawn : (capacity : ℕ) (h : History P) → Answered A capacity h → Each Drawn (standing h)
@@ -117,7 +116,7 @@ module _ {P : Type 0} (A : Setting P) where
                 (
                   as_it_is _,
                   (
-                    because_beside itself TooManyLegs
+                    because_beside itself (Curve TooManyLegs)
                         (λ x. (x.0, x.1, (m.crowded (length x.0) (fewest_some A ps x.0 x.1)).0 x.2))
                         (λ x. (x.0, x.1, (m.crowded (length x.0) (fewest_some A ps x.0 x.1)).1 x.2)),
                     tt,
@@ -174,10 +173,10 @@ module _ {P : Type 0} (A : Setting P) where
       }
 
   answers : (h : History P) (g : Progress P) (c : Contents P) → Whole A h g c → (call : Call P) (a : Answer)
-      → First (reasons A (facing A g c) call) (refusal_of a) → First (reasons A (after A c.capacity (standing h)) call) (refusal_of a)
+      → First (reasons A (facing A g c) call) (refusal a) → First (reasons A (after A c.capacity (standing h)) call) (refusal a)
   answers h g c w call a f =
-      subst (First (reasons A (after A c.capacity (standing h)) call)) (option_map_id (refusal_of a))
-      (first_beside itself (reasons A (facing A g c) call) (reasons A (after A c.capacity (standing h)) call) (refusal_of a)
+      subst (First (reasons A (after A c.capacity (standing h)) call)) (option_map_id (refusal a))
+      (first_beside itself (reasons A (facing A g c) call) (reasons A (after A c.capacity (standing h)) call) (refusal a)
       (alike_beside (facing A g c) (after A c.capacity (standing h)) (alike h g c w) call) f)
 
   -- ---- a history with one more call
@@ -185,7 +184,7 @@ module _ {P : Type 0} (A : Setting P) where
   more : (h : History P) (call : Call P) (a : Answer) (g : Progress P) (c : Contents P) (ss : List (Span P)) → after_call call a (standing h) ≡ ss
       → Joined None c.legs → g.count ≡ length c.legs → g.laid ≡ end_tick ss → g.end_value ≡ end_of (last_leg c.legs) → end_tick ss ≤ A.end → Stand A ss c.legs
       → (Seals call a → Full A (end_tick (standing h))) → SealedFull A h
-      → First (reasons A (after A c.capacity (standing h)) call) (refusal_of a) → Answered A c.capacity h
+      → First (reasons A (after A c.capacity (standing h)) call) (refusal a) → Answered A c.capacity h
       → Whole A ((call, a) ∷ h) g c
   more h call a g c ss e j n l v t s f fs x xs =
       let s' : Stand A (after_call call a (standing h)) c.legs = subst (λ zs. Stand A zs c.legs) (sym e) s in
@@ -207,7 +206,7 @@ module _ {P : Type 0} (A : Setting P) where
   -- nothing changes
   stays : (h : History P) (call : Call P) (a : Answer) (g : Progress P) (c : Contents P) (g' : Progress P) (c' : Contents P)
       → after_call call a (standing h) ≡ standing h → (Seals call a → Full A (end_tick (standing h)))
-      → Whole A h g c → First (reasons A (facing A g c) call) (refusal_of a) → (g' ≡ g) × (c' ≡ c) → Whole A ((call, a) ∷ h) g' c'
+      → Whole A h g c → First (reasons A (facing A g c) call) (refusal a) → (g' ≡ g) × (c' ≡ c) → Whole A ((call, a) ∷ h) g' c'
   stays h call a g c g' c' e f w x u =
       subst (λ d. Whole A ((call, a) ∷ h) g' d) (sym u.1) (subst (λ p. Whole A ((call, a) ∷ h) p c) (sym u.0)
       (more h call a g c (standing h) e w.joined w.count w.laid w.end_value w.in_time (stand h g c w) f w.sealed (answers h g c w call a x) w.answered))
@@ -216,7 +215,7 @@ module _ {P : Type 0} (A : Setting P) where
 
   strikes : (h : History P) (g : Progress P) (c : Contents P) (g' : Progress P) (c' : Contents P)
       → Whole A h g c → First (reasons A (facing A g c) strike) None → Struck A c g' c'
-      → (ss : List (Span P)) → standing h ≡ ss → Stand A ss c.legs → Whole A ((strike, Accepted) ∷ h) g' c'
+      → (ss : List (Span P)) → standing h ≡ ss → Stand A ss c.legs → Whole A ((strike, Ok tt) ∷ h) g' c'
   strikes h g c g' c' w x u [] e s =
       let a = u.some in
       let b : length c.legs ≡ length c'.legs + length u.off = ap length u.left ∙ length-append c'.legs u.off in
@@ -229,9 +228,9 @@ module _ {P : Type 0} (A : Setting P) where
       (own_from A (end_tick ss) p own s.4) (own_some A (end_tick ss) p own s.4) (not_shared ss before s.3) u.shared u.some u.all in
       let s' : Stand A ss c'.legs = subst (Stand A ss) r.0 s.3 in
       let time : end_tick ss + p.ticks ≤ A.end = subst (λ zs. end_tick zs ≤ A.end) e w.in_time in
-      more h strike Accepted g' c' ss (ap without_newest e)
+      more h strike (Ok tt) g' c' ss (ap without_newest e)
       (joined_front None c'.legs u.off (subst (Joined None) u.left w.joined)) u.count (u.laid ∙ sym r.1) u.end_value (omega arith) s' (λ b. absurd b) w.sealed
-      (subst (λ (n : ℕ). First (reasons A (after A n (standing h)) strike) None) (sym u.capacity) (answers h g c w strike Accepted x))
+      (subst (λ (n : ℕ). First (reasons A (after A n (standing h)) strike) None) (sym u.capacity) (answers h g c w strike (Ok tt) x))
       (subst (λ (n : ℕ). Answered A n h) (sym u.capacity) w.answered)
     where
       below_last : (T : ℕ) (o : Option (Leg P)) (ls : List (Leg P)) → ((l : Leg P) → o ≡ Some l → l.stretch.from < T) → Each (λ (l : Leg P). l.stretch.from < T) ls
@@ -256,7 +255,7 @@ module _ {P : Type 0} (A : Setting P) (law : LawfulSetting A) where
 
   lays : (h : History P) (ps : List P) (l : ℤ) (work : ℕ) (g : Progress P) (c : Contents P) (g' : Progress P) (c' : Contents P)
       → Whole A h g c → First (reasons A (facing A g c) (lay ps l work)) None → Laid A ps (whole_ticks l) g c g' c'
-      → Whole A ((lay ps l work, Accepted) ∷ h) g' c'
+      → Whole A ((lay ps l work, Ok tt) ∷ h) g' c'
   lays h ps l work g c g' c' w x u =
       let ss = standing h in
       let s : Span P = span_of ps l in
@@ -276,13 +275,13 @@ module _ {P : Type 0} (A : Setting P) (law : LawfulSetting A) where
       record { legs = record { cells = cs; fewest = u.fitted.fewest; made = refl; near = all_near S (whole_ticks l) s cs u.fitted.near }; lasts = some_ticks l some } in
       let st : Stand A (s ∷ ss) c'.legs = (c.legs, own, legs, stand A h g c w, o) in
       let many : length (c.legs ++ own) ≡ length c.legs + length cs = length-append c.legs own ∙ ap (λ (i : ℕ). length c.legs + i) (length-map cs _) in
-      more A h (lay ps l work) Accepted g' c' (s ∷ ss) refl
+      more A h (lay ps l work) (Ok tt) g' c' (s ∷ ss) refl
       (subst (Joined None) (sym legs) (joined_append None c.legs own w.joined (strung_follows (last_leg c.legs) (first_point A ps) (last_point A ps) own from (own_strung A S s own o))))
       (u.count ∙ ap (λ (i : ℕ). i + length cs) w.count ∙ sym (ap length legs ∙ many))
       (u.laid ∙ ap (λ (i : ℕ). i + whole_ticks l) e)
       (u.end_value ∙ sym (stand_end A (s ∷ ss) c'.legs st))
       (subst (λ (i : ℕ). i + whole_ticks l ≤ A.end) e time) st (λ b. absurd b) w.sealed
-      (subst (λ (i : ℕ). First (reasons A (after A i ss) (lay ps l work)) None) room (answers A h g c w (lay ps l work) Accepted x))
+      (subst (λ (i : ℕ). First (reasons A (after A i ss) (lay ps l work)) None) room (answers A h g c w (lay ps l work) (Ok tt) x))
       (subst (λ (i : ℕ). Answered A i h) room w.answered)
 
   -- ---- every call
@@ -294,12 +293,12 @@ module _ {P : Type 0} (A : Setting P) (law : LawfulSetting A) where
 
   pub kept : (h : History P) (call : Call P) (a : Answer) (g g' : Progress P) (c c' : Contents P)
       → Whole A h g c → Outcome A call g c a g' c' → Whole A ((call, a) ∷ h) g' c'
-  kept h (lay ps l work) Accepted g g' c c' w o = lays h ps l work g c g' c' w o.answer o.effect
-  kept h (lay ps l work) (Refused f) g g' c c' w o = stays A h (lay ps l work) (Refused f) g c g' c' refl (λ b. absurd b) w o.answer o.effect
-  kept h strike Accepted g g' c c' w o = strikes A h g c g' c' w o.answer o.effect (standing h) refl (stand A h g c w)
-  kept h strike (Refused f) g g' c c' w o = stays A h strike (Refused f) g c g' c' refl (λ b. absurd b) w o.answer o.effect
-  kept h seal Accepted g g' c c' w o = stays A h seal Accepted g c g' c' refl (λ t. seals h g c w o.answer) w o.answer o.effect
-  kept h seal (Refused f) g g' c c' w o = stays A h seal (Refused f) g c g' c' refl (λ b. absurd b) w o.answer o.effect
+  kept h (lay ps l work) (Ok tt) g g' c c' w o = lays h ps l work g c g' c' w o.answer o.effect
+  kept h (lay ps l work) (Err f) g g' c c' w o = stays A h (lay ps l work) (Err f) g c g' c' refl (λ b. absurd b) w o.answer o.effect
+  kept h strike (Ok tt) g g' c c' w o = strikes A h g c g' c' w o.answer o.effect (standing h) refl (stand A h g c w)
+  kept h strike (Err f) g g' c c' w o = stays A h strike (Err f) g c g' c' refl (λ b. absurd b) w o.answer o.effect
+  kept h seal (Ok tt) g g' c c' w o = stays A h seal (Ok tt) g c g' c' refl (λ t. seals h g c w o.answer) w o.answer o.effect
+  kept h seal (Err f) g g' c c' w o = stays A h seal (Err f) g c g' c' refl (λ b. absurd b) w o.answer o.effect
 
   pub at_first : (c : Contents P) → c.legs ≡ [] → Whole A [] begun c
   at_first c e =

@@ -9,14 +9,13 @@ use Rattle.outlet.specs.Outlets.{Contents, room}
 use Rattle.curve.specs.Fewest.{Divisible, Fewest}
 use Rattle.curve.specs.Refusals.{Outside, bent, crowded, point_reasons, put_reasons, work_wanted}
 use Rattle.curve.specs.declared.refusal.CurveRefusal.{CurveRefusal}
-use Rattle.curve.specs.declared.refusal.CurveRefusal.TheVariants as Curve
+use Rattle.curve.specs.declared.refusal.CurveRefusal.TheVariants.{PointCount, PointBeyond, ShortWork, TooBent, TooManyLegs}
 use Rattle.leg.proofs.Reasoned.{first_later, first_now}
 use Rattle.turn.specs.Calls.{Progress, lay}
 use Rattle.turn.specs.Reasons.{Continues, facing, first_point, reasons, cell_passes}
-use Rattle.turn.specs.Refusals.{of_curve}
 use Rattle.turn.specs.Settings.{Setting}
 use Rattle.turn.specs.declared.refusal.Refusal.{Refusal}
-use Rattle.turn.specs.declared.refusal.Refusal.TheVariants.{PointCount, PointBeyond, Ticks, PastEnd, Apart, ShortWork, TooBent, TooManyLegs}
+use Rattle.turn.specs.declared.refusal.Refusal.TheVariants.{Curve, Ticks, PastEnd, Apart}
 use Rattle.turn.proofs.Reasons.{because_beside, first_beside}
 
 -- where none of the first reasons holds, the others decide
@@ -30,36 +29,36 @@ module _ {P : Type 0} (A : Setting P) (ps : List P) where
   -- the reasons of a lay that look at the points alone
   abbrev pub points_refuse : List (Reason Refusal)
   points_refuse =
-      because (Outside (A.rule.lowest + 1) 9 (length ps)) PointCount
-      ∷ (λ f. (j : ℕ) × Beyond A.kind A.measure.limit ps j × (f ≡ PointBeyond j))
+      because (Outside (A.rule.lowest + 1) 9 (length ps)) (Curve PointCount)
+      ∷ (λ f. (j : ℕ) × Beyond A.kind A.measure.limit ps j × (f ≡ Curve (PointBeyond j)))
       ∷ []
 
-  pub points_first : (o : Option CurveRefusal) → First (point_reasons A.kind A.measure A.rule ps) o → First points_refuse (option_map of_curve o)
+  pub points_first : (o : Option CurveRefusal) → First (point_reasons A.kind A.measure A.rule ps) o → First points_refuse (option_map Curve o)
   points_first o h =
-      first_beside of_curve (point_reasons A.kind A.measure A.rule ps) points_refuse o
-      (because_beside of_curve Curve.PointCount (λ x. x) (λ x. x), ((λ f x. (x.0, x.1, ap of_curve x.2), λ f x. (Curve.PointBeyond x.0, (x.0, x.1, refl))), tt)) h
+      first_beside Curve (point_reasons A.kind A.measure A.rule ps) points_refuse o
+      (because_beside Curve PointCount (λ x. x) (λ x. x), ((λ f x. (x.0, x.1, ap Curve x.2), λ f x. (PointBeyond x.0, (x.0, x.1, refl))), tt)) h
 
   -- the last of them, which look at the work points and at the cells of the curve
   abbrev pub cells_refuse : ℕ → ℕ → List (Reason Refusal)
   cells_refuse work free =
-      because (work < work_wanted A.kind A.measure A.rule A.depth ps) ShortWork
-      ∷ because (¬ (Divisible A.depth (cell_passes A ps))) TooBent
-      ∷ because ((cs : List Cell) × Fewest A.depth (cell_passes A ps) cs × (free < length cs)) TooManyLegs
+      because (work < work_wanted A.kind A.measure A.rule A.depth ps) (Curve ShortWork)
+      ∷ because (¬ (Divisible A.depth (cell_passes A ps))) (Curve TooBent)
+      ∷ because ((cs : List Cell) × Fewest A.depth (cell_passes A ps) cs × (free < length cs)) (Curve TooManyLegs)
       ∷ []
 
   abbrev cells_refuse_curve : ℕ → ℕ → List (Reason CurveRefusal)
   cells_refuse_curve work free =
-      because (work < work_wanted A.kind A.measure A.rule A.depth ps) Curve.ShortWork
+      because (work < work_wanted A.kind A.measure A.rule A.depth ps) ShortWork
       ∷ bent A.kind A.measure A.rule A.tolerance A.depth ps
       ∷ crowded A.kind A.measure A.rule A.tolerance A.depth ps free
       ∷ []
 
   pub cells_first : (work free : ℕ) (o : Option CurveRefusal) → First (point_reasons A.kind A.measure A.rule ps) None
-      → First (put_reasons A.kind A.measure A.rule A.tolerance A.depth ps work free) o → First (cells_refuse work free) (option_map of_curve o)
+      → First (put_reasons A.kind A.measure A.rule A.tolerance A.depth ps work free) o → First (cells_refuse work free) (option_map Curve o)
   cells_first work free o p h =
-      first_beside of_curve (cells_refuse_curve work free) (cells_refuse work free) o (
-        because_beside of_curve Curve.ShortWork (λ x. x) (λ x. x),
-        (because_beside of_curve Curve.TooBent (λ x. x) (λ x. x), (because_beside of_curve Curve.TooManyLegs (λ x. x) (λ x. x), tt)),
+      first_beside Curve (cells_refuse_curve work free) (cells_refuse work free) o (
+        because_beside Curve ShortWork (λ x. x) (λ x. x),
+        (because_beside Curve TooBent (λ x. x) (λ x. x), (because_beside Curve TooManyLegs (λ x. x) (λ x. x), tt)),
       )
       (first_behind (point_reasons A.kind A.measure A.rule ps) (cells_refuse_curve work free) o p h)
 
@@ -75,8 +74,8 @@ module _ {P : Type 0} (A : Setting P) (g : Progress P) (c : Contents P) (ps : Li
       ∷ cells_refuse A ps work (room c)
 
   -- refused for its points
-  pub lay_points : (f : CurveRefusal) → First (point_reasons A.kind A.measure A.rule ps) (Some f) → First (reasons A (facing A g c) (lay ps l work)) (Some (of_curve f))
-  lay_points f h = inr (λ e x. x.0 ours, first_now (points_refuse A ps) later (of_curve f) (points_first A ps (Some f) h))
+  pub lay_points : (f : CurveRefusal) → First (point_reasons A.kind A.measure A.rule ps) (Some f) → First (reasons A (facing A g c) (lay ps l work)) (Some (Curve f))
+  lay_points f h = inr (λ e x. x.0 ours, first_now (points_refuse A ps) later (Curve f) (points_first A ps (Some f) h))
 
   module _ (drawn : First (point_reasons A.kind A.measure A.rule ps) None) where
     past_points : (o : Option Refusal) → First later o → First (reasons A (facing A g c) (lay ps l work)) o
@@ -99,6 +98,6 @@ module _ {P : Type 0} (A : Setting P) (g : Progress P) (c : Contents P) (ps : Li
 
         -- refused or accepted as its curve is
         pub lay_cells : Continues g.end_value (first_point A ps) → (o : Option CurveRefusal) → First (put_reasons A.kind A.measure A.rule A.tolerance A.depth ps work (room c)) o
-            → First (reasons A (facing A g c) (lay ps l work)) (option_map of_curve o)
+            → First (reasons A (facing A g c) (lay ps l work)) (option_map Curve o)
         lay_cells x o h =
-            past_points (option_map of_curve o) (inr (timely, inr (λ e y. in_time y.0, inr (λ e y. y.0 x, cells_first A ps work (room c) o drawn h))))
+            past_points (option_map Curve o) (inr (timely, inr (λ e y. in_time y.0, inr (λ e y. y.0 x, cells_first A ps work (room c) o drawn h))))

@@ -1,12 +1,13 @@
 -- The calls alone determine all that is whole, since only one division has the fewest cells.
 use Rattle.std.proofs.Common.{◌≡◌, ℕ, List, [], ◌∷◌, ◌++◌, length, sym, refl, ap, ◌∙◌, subst, ap₂}
 use Rattle.std.proofs.lemmas.Option.{same_Some}
-use Rattle.leg.specs.Reasons.{First}
+use Rattle.leg.specs.Reasons.{First, refusal}
 use Rattle.leg.specs.declared.leg.Cell.{Cell}
 use Rattle.leg.specs.declared.leg.Leg.{Leg}
+use Rattle.leg.proofs.Reasoned.{one_answer}
 use Rattle.curve.specs.Fewest.{Fewest}
 use Rattle.curve.proofs.Divisions.{fewest_is_found}
-use Rattle.turn.specs.Calls.{History, Span, end_of, end_tick, last_leg, refusal_of, standing}
+use Rattle.turn.specs.Calls.{History, Span, end_of, end_tick, last_leg, standing}
 use Rattle.turn.specs.Claims.{Pinned, made_calls}
 use Rattle.turn.specs.Outcomes.{legs_for}
 use Rattle.turn.specs.Reasons.{after, reasons, cell_passes}
@@ -14,7 +15,6 @@ use Rattle.turn.specs.Settings.{Setting}
 use Rattle.turn.specs.Whole.{Answered, SpanLegs}
 use Rattle.turn.proofs.Exact.{all_single, calls_head, calls_tail, no_calls, same_answer}
 use Rattle.turn.proofs.Kept.{stand}
-use Rattle.turn.proofs.Reasons.{one_answer}
 use Rattle.turn.proofs.Standing.{Stand}
 
 module _ {P : Type 0} (A : Setting P) where
@@ -38,9 +38,9 @@ module _ {P : Type 0} (A : Setting P) where
       let h = calls_head A a.0 b.0 (made_calls h₁) (made_calls h₂) e in
       let i = same_history n h₁ h₂ (calls_tail A a.0 b.0 (made_calls h₁) (made_calls h₂) e) x.1 y.1 in
       let now = after A n (standing h₂) in
-      let z : First (reasons A now b.0) (refusal_of a.1) =
-      subst (λ c. First (reasons A now c) (refusal_of a.1)) h (subst (λ r. First (reasons A (after A n (standing r)) a.0) (refusal_of a.1)) i x.0) in
-      let q = same_answer a.1 b.1 (one_answer (reasons A now b.0) (all_single A now b.0) (refusal_of a.1) (refusal_of b.1) z y.0) in
+      let z : First (reasons A now b.0) (refusal a.1) =
+      subst (λ c. First (reasons A now c) (refusal a.1)) h (subst (λ r. First (reasons A (after A n (standing r)) a.0) (refusal a.1)) i x.0) in
+      let q = same_answer a.1 b.1 (one_answer (reasons A now b.0) (all_single A now b.0) (refusal a.1) (refusal b.1) z y.0) in
       λ k. (h k, q k) ∷ i k
 
   pub pinned : Pinned A

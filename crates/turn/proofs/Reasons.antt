@@ -1,5 +1,5 @@
 -- Lists of reasons beside one another: what decides in one decides in the other.
-use Rattle.std.proofs.Common.{◌≡◌, ◌⊎◌, List, [], ◌∷◌, Some, None, Option, sym, refl, ap, ◌∙◌, inl, inr}
+use Rattle.std.proofs.Common.{◌⊎◌, List, [], ◌∷◌, Some, None, Option, refl, ap, inl, inr}
 use Rattle.std.proofs.lemmas.Option.{none-some}
 use Rattle.std.specs.Option.{option_map}
 use Rattle.leg.specs.Reasons.{Reason, because, First}
@@ -37,25 +37,6 @@ pub none_holds : {E : Type 0} (rs : List (Reason E)) → First rs None → NoneH
 none_holds [] h = tt
 none_holds (r ∷ rs) (inl h) = absurd (none-some h.0 h.2)
 none_holds (r ∷ rs) (inr h) = (h.0, none_holds rs h.1)
-
--- ---- at most one answer
-
-abbrev pub Single : {E : Type 0} → Reason E → Type 0
-Single {E} r = (e f : E) → r e → r f → e ≡ f
-
-abbrev pub AllSingle : {E : Type 0} → List (Reason E) → Type 0
-AllSingle [] = Unit {0}
-AllSingle (r ∷ rs) = Single r × AllSingle rs
-
-pub one_answer : {E : Type 0} (rs : List (Reason E)) → AllSingle rs → (o p : Option E) → First rs o → First rs p → o ≡ p
-one_answer [] s o p h k = h ∙ sym k
-one_answer (r ∷ rs) s o p (inl h) (inl k) = h.2 ∙ ap Some (s.0 h.0 k.0 h.1 k.1) ∙ sym k.2
-one_answer (r ∷ rs) s o p (inl h) (inr k) = absurd (k.0 h.0 h.1)
-one_answer (r ∷ rs) s o p (inr h) (inl k) = absurd (h.0 k.0 k.1)
-one_answer (r ∷ rs) s o p (inr h) (inr k) = one_answer rs s.1 o p h.1 k.1
-
-pub because_single : {E : Type 0} (X : Type 0) (f : E) → Single (because X f)
-because_single X f d e h k = h.1 ∙ sym k.1
 
 -- ---- at least one
 

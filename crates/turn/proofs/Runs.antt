@@ -4,11 +4,10 @@ use Rattle.std.proofs.lemmas.Option.{none-some, same_Some, slice_get-get_or, sli
 use Rattle.std.specs.List.{slice_get}
 use Rattle.std.specs.Option.{option_map}
 use Rattle.outlet.specs.Outlets.{Contents}
-use Rattle.turn.specs.Calls.{Call, History, Progress, Seals, call_of, calls_of}
+use Rattle.turn.specs.Calls.{Answer, Call, History, Progress, Seals, call_of, calls_of}
 use Rattle.turn.specs.Outcomes.{Outcome}
 use Rattle.turn.specs.Runs.{AllAnswered, Performed, Reached, recorded}
 use Rattle.turn.specs.Settings.{Setting}
-use Rattle.turn.specs.declared.answer.Answer.{Answer}
 use Rattle.turn.specs.declared.call.Call.{Call as CodeCall}
 
 -- The call that a loop over the program's list has in hand, where so many are answered.

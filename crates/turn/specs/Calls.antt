@@ -1,9 +1,7 @@
 -- The calls that alter a draft, what they answer, and the spans that stand after a list of them.
-use Rattle.std.specs.Prelude.{ℕ, ◌+◌, List, [], ◌∷◌, map, ℤ, pos, negsuc, Some, None, Option}
+use Rattle.std.specs.Prelude.{ℕ, ◌+◌, List, [], ◌∷◌, map, ℤ, pos, negsuc, Some, None, Option, Ok, Err, Result}
 use Rattle.leg.specs.Chains.{last_or}
 use Rattle.leg.specs.declared.leg.Leg.{Leg}
-use Rattle.turn.specs.declared.answer.Answer.{Answer}
-use Rattle.turn.specs.declared.answer.Answer.TheVariants.{Accepted, Refused}
 use Rattle.turn.specs.declared.call.Call.{Call as CodeCall}
 use Rattle.turn.specs.declared.call.Call.TheVariants.{Lay, Strike, Seal}
 use Rattle.turn.specs.declared.refusal.Refusal.{Refusal}
@@ -25,21 +23,20 @@ call_of Seal = seal
 abbrev pub calls_of : {P : Type 0} → List (CodeCall P) → List (Call P)
 calls_of calls = map call_of calls
 
--- Why it was refused, if it was.
-abbrev pub refusal_of : Answer → Option Refusal
-refusal_of Accepted = None
-refusal_of (Refused f) = Some f
+-- What a call answers: that it is accepted, or why it is refused.
+abbrev pub Answer : Type 0
+Answer = Result (Unit {0}) Refusal
 
 abbrev pub answer_of : Option Refusal → Answer
-answer_of None = Accepted
-answer_of (Some f) = Refused f
+answer_of None = Ok tt
+answer_of (Some f) = Err f
 
 -- The call is a seal, and was accepted.
 abbrev pub Seals : {P : Type 0} → Call P → Answer → Type 0
 Seals (lay ps l work) a = ⊥
 Seals strike a = ⊥
-Seals seal Accepted = Unit {0}
-Seals seal (Refused f) = ⊥
+Seals seal (Ok _) = Unit {0}
+Seals seal (Err f) = ⊥
 
 -- ---- histories
 
@@ -67,10 +64,10 @@ without_newest (s ∷ ss) = ss
 
 -- The spans that stand after one more call, the newest first: an accepted lay adds its span, an accepted strike takes the newest off, and nothing else changes them.
 abbrev pub after_call : {P : Type 0} → Call P → Answer → List (Span P) → List (Span P)
-after_call (lay ps l work) Accepted ss = span_of ps l ∷ ss
-after_call (lay ps l work) (Refused f) ss = ss
-after_call strike Accepted ss = without_newest ss
-after_call strike (Refused f) ss = ss
+after_call (lay ps l work) (Ok _) ss = span_of ps l ∷ ss
+after_call (lay ps l work) (Err f) ss = ss
+after_call strike (Ok _) ss = without_newest ss
+after_call strike (Err f) ss = ss
 after_call seal a ss = ss
 
 abbrev pub standing : {P : Type 0} → History P → List (Span P)

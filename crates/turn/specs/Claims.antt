@@ -3,12 +3,11 @@ use Rattle.std.specs.Prelude.{◌≡◌, ◌≤◌, List, [], ◌∷◌, map}
 use Rattle.leg.specs.Chains.{Chained, Each}
 use Rattle.leg.specs.Legs.{IsLeg}
 use Rattle.outlet.specs.Outlets.{Contents}
-use Rattle.turn.specs.Calls.{Call, History, Progress, begun}
+use Rattle.turn.specs.Calls.{Answer, Call, History, Progress, begun}
 use Rattle.turn.specs.Outcomes.{Outcome}
 use Rattle.turn.specs.Runs.{Performed, Reached, recorded}
 use Rattle.turn.specs.Settings.{Setting}
 use Rattle.turn.specs.Whole.{Whole}
-use Rattle.turn.specs.declared.answer.Answer.{Answer}
 
 abbrev pub made_calls : {P : Type 0} → History P → List (Call P)
 made_calls h = map (λ x. x.0) h

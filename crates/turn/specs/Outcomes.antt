@@ -1,16 +1,14 @@
 -- What each call does, to any draft and any outlet.
-use Rattle.std.specs.Prelude.{◌≡◌, ℕ, ◌+◌, ◌≤◌, List, ◌++◌, map, length, Some}
+use Rattle.std.specs.Prelude.{◌≡◌, ℕ, ◌+◌, ◌≤◌, List, ◌++◌, map, length, Some, Ok, Err}
 use Rattle.leg.specs.Chains.{Each}
-use Rattle.leg.specs.Reasons.{First}
+use Rattle.leg.specs.Reasons.{First, refusal}
 use Rattle.leg.specs.declared.leg.Cell.{Cell}
 use Rattle.leg.specs.declared.leg.Leg.{Leg}
 use Rattle.outlet.specs.Outlets.{Contents, with_legs}
 use Rattle.curve.specs.Legs.{Fitted, leg_of}
-use Rattle.turn.specs.Calls.{Call, lay, strike, seal, Progress, refusal_of, whole_ticks, last_leg, end_of}
+use Rattle.turn.specs.Calls.{Answer, Call, lay, strike, seal, Progress, whole_ticks, last_leg, end_of}
 use Rattle.turn.specs.Reasons.{facing, last_point, reasons}
 use Rattle.turn.specs.Settings.{Setting}
-use Rattle.turn.specs.declared.answer.Answer.{Answer}
-use Rattle.turn.specs.declared.answer.Answer.TheVariants.{Accepted, Refused}
 
 module _ {P : Type 0} (A : Setting P) where
   -- The legs of a span that starts at the tick S, one for each of these cells of its curve.
@@ -41,13 +39,13 @@ module _ {P : Type 0} (A : Setting P) where
 
   -- Nothing changes where a call is refused, nor where a turn is sealed.
   abbrev pub Effect : Call P → Answer → Progress P → Contents P → Progress P → Contents P → Type 0
-  Effect (lay ps l work) Accepted g c g' c' = Laid ps (whole_ticks l) g c g' c'
-  Effect (lay ps l work) (Refused f) g c g' c' = (g' ≡ g) × (c' ≡ c)
-  Effect strike Accepted g c g' c' = Struck c g' c'
-  Effect strike (Refused f) g c g' c' = (g' ≡ g) × (c' ≡ c)
+  Effect (lay ps l work) (Ok _) g c g' c' = Laid ps (whole_ticks l) g c g' c'
+  Effect (lay ps l work) (Err f) g c g' c' = (g' ≡ g) × (c' ≡ c)
+  Effect strike (Ok _) g c g' c' = Struck c g' c'
+  Effect strike (Err f) g c g' c' = (g' ≡ g) × (c' ≡ c)
   Effect seal a g c g' c' = (g' ≡ g) × (c' ≡ c)
 
   -- The outcome of a call: it is answered by the first of its reasons that holds, and accepted where none holds; and it has that effect.
   pub record Outcome (call : Call P) (g : Progress P) (c : Contents P) (a : Answer) (g' : Progress P) (c' : Contents P) : Type 0 where
-    pub answer : First (reasons A (facing A g c) call) (refusal_of a)
+    pub answer : First (reasons A (facing A g c) call) (refusal a)
     pub effect : Effect call a g c g' c'

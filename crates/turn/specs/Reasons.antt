@@ -13,7 +13,8 @@ use Rattle.curve.specs.Refusals.{Outside, work_wanted}
 use Rattle.turn.specs.Calls.{Call, lay, strike, seal, Progress, Span, end_tick, last_leg}
 use Rattle.turn.specs.Settings.{Full, Setting}
 use Rattle.turn.specs.declared.refusal.Refusal.{Refusal}
-use Rattle.turn.specs.declared.refusal.Refusal.TheVariants.{Foreign, PointCount, PointBeyond, Ticks, PastEnd, Apart, ShortWork, TooBent, TooManyLegs, Empty, Torn, NotFull}
+use Rattle.curve.specs.declared.refusal.CurveRefusal.TheVariants.{PointCount, PointBeyond, ShortWork, TooBent, TooManyLegs}
+use Rattle.turn.specs.declared.refusal.Refusal.TheVariants.{Curve, Foreign, Ticks, PastEnd, Apart, Empty, Torn, NotFull}
 
 -- What a call meets, as far as its reasons ask.
 pub record Situation (P : Type 0) : Type 1 where
@@ -43,14 +44,14 @@ module _ {P : Type 0} (A : Setting P) where
   abbrev pub reasons : Situation P → Call P → List (Reason Refusal)
   reasons now (lay ps l work) =
       because now.foreign Foreign
-      ∷ because (Outside (A.rule.lowest + 1) 9 (length ps)) PointCount
-      ∷ (λ f. (j : ℕ) × Beyond A.kind A.measure.limit ps j × (f ≡ PointBeyond j))
+      ∷ because (Outside (A.rule.lowest + 1) 9 (length ps)) (Curve PointCount)
+      ∷ (λ f. (j : ℕ) × Beyond A.kind A.measure.limit ps j × (f ≡ Curve (PointBeyond j)))
       ∷ because ((l <ℤ pos 1) ⊎ (pos 4096 <ℤ l)) Ticks
       ∷ because (pos A.end <ℤ (pos now.laid +ℤ l)) PastEnd
       ∷ because (¬ (Continues now.end_value (first_point ps))) Apart
-      ∷ because (work < work_wanted A.kind A.measure A.rule A.depth ps) ShortWork
-      ∷ because (¬ (Divisible A.depth (cell_passes ps))) TooBent
-      ∷ because ((cs : List Cell) × Fewest A.depth (cell_passes ps) cs × now.crowded (length cs)) TooManyLegs
+      ∷ because (work < work_wanted A.kind A.measure A.rule A.depth ps) (Curve ShortWork)
+      ∷ because (¬ (Divisible A.depth (cell_passes ps))) (Curve TooBent)
+      ∷ because ((cs : List Cell) × Fewest A.depth (cell_passes ps) cs × now.crowded (length cs)) (Curve TooManyLegs)
       ∷ []
   reasons now strike = because now.foreign Foreign ∷ because now.empty Empty ∷ because now.torn Torn ∷ []
   reasons now seal = because now.foreign Foreign ∷ because (¬ (Full A now.laid)) NotFull ∷ []

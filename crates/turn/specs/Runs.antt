@@ -1,10 +1,9 @@
 -- Lists of calls, performed one after another.
 use Rattle.std.specs.Prelude.{◌≡◌, ◌⊎◌, List, [], ◌∷◌}
 use Rattle.outlet.specs.Outlets.{Contents}
-use Rattle.turn.specs.Calls.{Call, History, Progress, Seals}
+use Rattle.turn.specs.Calls.{Answer, Call, History, Progress, Seals}
 use Rattle.turn.specs.Outcomes.{Outcome}
 use Rattle.turn.specs.Settings.{Setting}
-use Rattle.turn.specs.declared.answer.Answer.{Answer}
 
 module _ {P : Type 0} where
   -- The history h, followed by these calls in order, as many as there are answers.

@@ -2,14 +2,14 @@
 use Rattle.std.specs.Prelude.{◌≡◌, ℕ, ◌*◌, ◌≤◌, Bool, true, false, List, [], ◌∷◌, ◌++◌, length, Some, None, Option, ◌==◌}
 use Rattle.bezier.specs.Near.{Near}
 use Rattle.leg.specs.Chains.{Each, Joined, Seamless, last_or, stretches}
-use Rattle.leg.specs.Reasons.{First}
+use Rattle.leg.specs.Reasons.{First, refusal}
 use Rattle.leg.specs.Ticks.{cells as cells_of, ends_at}
 use Rattle.leg.specs.declared.leg.Cell.{Cell}
 use Rattle.leg.specs.declared.leg.Leg.{Leg}
 use Rattle.leg.specs.declared.leg.Stretch.{Stretch}
 use Rattle.outlet.specs.Outlets.{Contents}
 use Rattle.curve.specs.Fewest.{Fewest}
-use Rattle.turn.specs.Calls.{History, Progress, Seals, Span, end_of, end_tick, last_leg, refusal_of, standing}
+use Rattle.turn.specs.Calls.{History, Progress, Seals, Span, end_of, end_tick, last_leg, standing}
 use Rattle.turn.specs.Outcomes.{legs_for}
 use Rattle.turn.specs.Reasons.{after, cell_passes, reasons}
 use Rattle.turn.specs.Settings.{Full, Setting}
@@ -56,7 +56,7 @@ module _ {P : Type 0} (A : Setting P) where
   -- Each call was refused exactly where a reason for it held of the spans that stood before it, and with the first that did.
   abbrev pub Answered : ℕ → History P → Type 0
   Answered capacity [] = Unit {0}
-  Answered capacity (x ∷ h) = First (reasons A (after A capacity (standing h)) x.0) (refusal_of x.1) × Answered capacity h
+  Answered capacity (x ∷ h) = First (reasons A (after A capacity (standing h)) x.0) (refusal x.1) × Answered capacity h
 
   -- Whenever a seal was accepted, the turn was full.
   abbrev pub SealedFull : History P → Type 0

@@ -1,7 +1,6 @@
 //! Turns: what calls make of a draft, and the promise about every list of them.
 #![tactic(auto)]
 
-pub mod answer;
 pub mod call;
 pub mod promise;
 pub mod refusal;

@@ -10,24 +10,24 @@ use Rattle.bezier.proofs.matching.blend.Goals as goal
 pub loop-j-preserved : goal.loop-j-preserved
 loop-j-preserved g c =
     let K = g.P.Ordinate.kind in
-    let ps = c.args.points.now in
+    let ps = c.args.curve.now.points.now in
     let n = length ps - 1 in
     let j = c.loop-j.j in
     let F : ℕ → ℤ = λ k. choose n k · K.coordinate (point K ps k) c.args.i in
     let inside : j < length ps = omega arith in
-    let at = c.index-points-j.is ∙ get_or_default ps j _ (blank K) inside in
+    let at = c.point-item.is ∙ get_or_default ps j _ (blank K) inside in
     let x = c.coordinate.result in
     let f : SFits w64 x = search rules in
     let here : x ≡ K.coordinate (point K ps j) c.args.i = c.coordinate.ensures ∙ ap (λ (p : g.row.P.Denot). K.coordinate p c.args.i) at in
     let term : Means c.times.result (c.table_entry.result · x) = times_of c.table_entry.result (sent (own f)) c.times.ensures in
-    let term' : Means c.times.result (F j) = record { is = term.is ∙ ap₂ (λ (k : ℕ) (y : ℤ). word (k · y)) c.table_entry.ensures here } in
+    let term' : Means c.times.result (F j) = record { is = term.is ∙ ap₂ (λ (k : ℕ) (y : ℤ). word (k · y)) (c.table_entry.ensures ∙ ap (λ (m : ℕ). choose m j) c.degree-n.ensures) here } in
     let before : Means _ (summed j F) = record { is = c.loop-j.invariant } in
     (sent (plus_of before (sent term') c.plus-sum.ensures)).is ∙ ap word (summed_more j F)
 
 pub returns : goal.returns
 returns g c =
     let K = g.P.Ordinate.kind in
-    let ps = c.args.points.now in
+    let ps = c.args.curve.now.points.now in
     let n = length ps - 1 in
     let top : c.loop-j.j ≡ suc n = omega arith in
     let F : ℕ → ℤ = λ k. choose n k · K.coordinate (point K ps k) c.args.i in

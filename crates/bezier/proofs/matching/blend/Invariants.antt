@@ -7,4 +7,4 @@ use Rattle.bezier.proofs.Blends.{summed}
 use Rattle.bezier.proofs.matching.blend.Given as goal
 
 abbrev pub invariant-loop-j : goal.invariant-loop-j
-invariant-loop-j g l = l.sum ≡ int_wrap w64 (summed l.j (λ k. choose (length l.points - 1) k · g.P.Ordinate.kind.coordinate (point g.P.Ordinate.kind l.points k) l.i))
+invariant-loop-j g l = l.sum ≡ int_wrap w64 (summed l.j (λ k. choose (length l.curve.points.now - 1) k · g.P.Ordinate.kind.coordinate (point g.P.Ordinate.kind l.curve.points.now k) l.i))

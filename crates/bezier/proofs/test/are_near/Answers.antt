@@ -1,8 +1,8 @@
-use Rattle.std.proofs.Common.{◌-◌, ◌<◌, length, sym, ap, ◌∙◌, arith, w64}
+use Rattle.std.proofs.Common.{ℕ, ◌-◌, ◌<◌, length, sym, ap, ◌∙◌, arith, w64}
 use Rattle.std.proofs.lemmas.List.{get_or_default}
 use Rattle.std.proofs.lemmas.Int.{to_z-of_z}
 use Rattle.distance.specs.Measures.{blank}
-use Rattle.bezier.specs.Shares.{all_near, near_at}
+use Rattle.bezier.specs.Shares.{all_near, near_at, shares_of}
 use Rattle.bezier.proofs.Beside.{beside, every_all, every_not}
 use Rattle.bezier.proofs.test.are_near.Goals as goal
 
@@ -10,16 +10,14 @@ pub returns-then-not-is_near : goal.returns-then-not-is_near
 returns-then-not-is_near g c =
     let K = g.P.Ordinate.kind in
     let M = g.P.Distance.measure in
-    let ps = c.args.points.now in
+    let ps = c.args.curve.now.points.now in
     let n = length ps - 1 in
     let j = c.loop-j.j in
-    let some : 0 < length ps = omega arith in
     let inside : j < length ps = omega arith in
-    let top : n < length ps = omega arith in
-    let e = beside K M c.args.degree ps c.args.middle _ c.args.r j c.is_near.result c.shares-s.result c.index-points-j.result c.index-points-0.result c.index-points-n.result c.is_near.ensures c.shares-s.ensures
-    (c.index-points-j.is ∙ get_or_default ps j _ (blank K) inside)
-    (c.index-points-0.is ∙ get_or_default ps 0 _ (blank K) some)
-    (c.index-points-n.is ∙ get_or_default ps n _ (blank K) top)
+    let e = beside K M c.args.degree ps c.args.middle _ c.args.r j c.is_near.result c.shares-s.result _ c.first.result c.last.result c.is_near.ensures (c.shares-s.ensures ∙ ap (λ (m : ℕ). shares_of c.args.degree m j) c.degree-n.ensures)
+    (c.point-item.is ∙ get_or_default ps j _ (blank K) inside)
+    c.first.ensures
+    c.last.ensures
     (to_z-of_z w64 c.args.r c.ranges.r) in
     every_not n (near_at K M c.args.degree ps c.args.middle c.args.r) j (omega arith) (sym e ∙ c.if-not-is_near.true)
 
@@ -27,7 +25,7 @@ pub returns : goal.returns
 returns g c =
     let K = g.P.Ordinate.kind in
     let M = g.P.Distance.measure in
-    let ps = c.args.points.now in
+    let ps = c.args.curve.now.points.now in
     let n = length ps - 1 in
     every_all n (near_at K M c.args.degree ps c.args.middle _) (λ k h. c.loop-j.invariant k (omega arith))
     ∙ ap (all_near K M c.args.degree ps c.args.middle) (to_z-of_z w64 c.args.r c.ranges.r)

@@ -7,12 +7,3 @@ returns-in_err-read-clause-answer c =
     let failed = err_from_is_err_and c.from_residual.result c.from_residual.ensures.1 in
     let named = sym c.code_of.ensures ∙ c.if-code_of-code.true ∙ c.code.ensures in
     rw (failed.1, failed.2) (record { of_flow = λ _. c.in_err-read.ensures.answer; other = λ unnamed. absurd (unnamed named) })
-
-pub returns-in_err-read-2-clause-answer : goal.returns-in_err-read-2-clause-answer
-returns-in_err-read-2-clause-answer c =
-    let failed = err_from_is_err_and c.from_residual-in_err-read-2.result c.from_residual-in_err-read-2.ensures.1 in
-    rw (failed.1, failed.2)
-    (record {
-      of_flow = λ named. absurd (c.if-code_of-code.false (c.code_of.ensures ∙ named ∙ sym c.code.ensures));
-      other = λ _. c.in_err-read-2.ensures.answer;
-    })

@@ -1,27 +1,22 @@
-use Rattle.std.proofs.Common.{◌≡◌, ℕ, ◌+◌, ◌*◌, ◌≤◌, length, take, sym, ap, ◌∙◌, arith, take_all}
-use Rattle.card.proofs.Writing.{six_up, four_up, pasted_front}
+use Rattle.std.proofs.Common.{refl, ◌∙◌, arith}
+use Rattle.std.proofs.lemmas.List.{append_assoc, append-nil}
+use Rattle.ordinate.specs.Laws.Octets.{length_be}
+use Rattle.card.proofs.Codec.{point_length}
+use Rattle.card.proofs.Writing.{begun_more, begun_none, begun_whole}
 use Rattle.card.proofs.record.encode.Goals as goal
 
 pub returns : goal.returns
 returns g c =
     let K = g.P.Ordinate.kind in
-    let n = c.dimension-width.ensures in
-    let w = 8 * c.dimension-width.result in
-    let e : 12 + 8 * K.dimension ≡ 12 + w = omega arith in
-    let f : 12 + w + 8 * K.dimension ≡ 12 + 2 * w = omega arith in
-    let all = c.write_point-3.new.into in
-    let short : length all ≤ 12 + 2 * w + 8 * K.dimension = omega arith in
-    let xs = c.args.into.now in
     let l = c.args.leg.now in
-    let f₁ = pasted_front xs _ 0 4 l.stretch.from (omega arith) c.write_field.ensures in
-    let f₂ = pasted_front c.write_field.new.into _ 4 2 l.stretch.ticks (omega arith) c.write_field-2.ensures in
-    let f₃ = pasted_front c.write_field-2.new.into _ 6 1 l.stretch.cell.depth (omega arith) c.write_field-3.ensures in
-    let f₄ = pasted_front c.write_field-3.new.into _ 7 1 l.degree (omega arith) c.write_field-4.ensures in
-    let f₅ = pasted_front c.write_field-4.new.into _ 8 2 l.stretch.cell.index (omega arith) c.write_field-5.ensures in
-    let f₆ = pasted_front c.write_field-5.new.into _ 10 2 0 (omega arith) c.write_field-6.ensures in
-    let head = six_up _ _ _ _ _ _ _ _ _ _ _ _ f₁ f₂ f₃ f₄ f₅ f₆ in
-    sym (take_all (12 + 2 * w + 8 * K.dimension) all short)
-    ∙ four_up _ _ _ _ _ _ _ _ head
-    (ap (λ (k : ℕ). take k c.write_point.new.into) (sym e) ∙ c.write_point.ensures)
-    (ap (λ (k : ℕ). take k c.write_point-2.new.into) (sym f) ∙ c.write_point-2.ensures)
-    c.write_point-3.ensures
+    let n = c.dimension-width.ensures in
+    let b₁ = begun_more _ _ _ _ _ _ _ _ (begun_none c.args.into.now) (length_be 4 _) refl c.write_field.ensures in
+    let b₂ = begun_more _ _ _ _ _ _ _ _ b₁ (length_be 2 _) refl c.write_field-2.ensures in
+    let b₃ = begun_more _ _ _ _ _ _ _ _ b₂ (length_be 1 _) refl c.write_field-3.ensures in
+    let b₄ = begun_more _ _ _ _ _ _ _ _ b₃ (length_be 1 _) refl c.write_field-4.ensures in
+    let b₅ = begun_more _ _ _ _ _ _ _ _ b₄ (length_be 2 _) refl c.write_field-5.ensures in
+    let b₆ = begun_more _ _ _ _ _ _ _ _ b₅ (length_be 2 _) refl c.write_field-6.ensures in
+    let b₇ = begun_more _ _ _ _ _ _ _ _ b₆ (point_length K l.start) refl c.write_point.ensures in
+    let b₈ = begun_more _ _ _ _ _ _ _ _ b₇ (point_length K l.middle) (omega arith) c.write_point-2.ensures in
+    let b₉ = begun_more _ _ _ _ _ _ _ _ b₈ (point_length K l.end) (omega arith) c.write_point-3.ensures in
+    begun_whole _ _ _ _ b₉ (omega arith) ∙ simp (append_assoc, append-nil)

@@ -1,10 +1,11 @@
-use Rattle.std.proofs.Common.{◌≡◌, ℕ, ◌+◌, ◌-◌, ◌*◌, List, length, take, drop, replicate, sym, ap, ◌∙◌, ap₂, arith, length-drop, length-take}
+use Rattle.std.proofs.Common.{◌≡◌, ℕ, ◌-◌, ◌*◌, List, length, take, drop, replicate, sym, ap, ◌∙◌, ap₂, arith, length-drop, length-take}
+use Rattle.std.proofs.Math.Nat.{min-eq_left}
 use lib.Seq.{paste}
 use Rattle.std.proofs.lemmas.List.{length-replicate}
 use Rattle.std.proofs.lemmas.Slice.{put_mid-paste}
 use Rattle.ordinate.specs.Octets.{be}
 use Rattle.card.specs.Records.{record_length}
-use Rattle.card.proofs.Headers.{place_within, place_below, places_between}
+use Rattle.card.proofs.Headers.{place_below, places_between}
 use Rattle.card_writer.proofs.card_outlet.drop_records.Goals as goal
 
 pub returns : goal.returns
@@ -15,8 +16,8 @@ returns g c =
     let m = c.args.m in
     let from = c.place_of-from.result in
     let to = c.place_of-to.result in
-    let ef = c.place_of-from.ensures ∙ place_within (8 + record_length K * n) (length xs) (place_below (record_length K) n m (length xs) c.requires.0 c.requires.1) in
-    let et = c.place_of-to.ensures ∙ place_within (8 + record_length K * m) (length xs) c.requires.1 in
+    let ef = c.place_of-from.ensures ∙ min-eq_left (place_below (record_length K) n m (length xs) c.requires.0 c.requires.1) in
+    let et = c.place_of-to.ensures ∙ min-eq_left c.requires.1 in
     let w : ℕ = record_length K * (m - n) in
     let span : to - from ≡ w = ap₂ (λ (s t : ℕ). s - t) et ef ∙ places_between (record_length K) n m c.requires.0 in
     let len : length (take (to - from) (drop from xs)) ≡ w = omega (arith, length-take (to - from) (drop from xs), length-drop from xs, c.requires.1) in

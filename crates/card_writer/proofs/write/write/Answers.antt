@@ -1,8 +1,9 @@
 use Rattle.std.proofs.Common.{ℕ, length, ap, ◌∙◌, subst}
 use Rattle.card.specs.Cards.{capacity}
+use Rattle.card.proofs.Carried.{carried_accepted}
 use Rattle.card_writer.specs.Outlet.{Fit, Refuses, written}
 use Rattle.card_writer.proofs.Started.{started_length}
-use Rattle.card_writer.proofs.Listing.{fit_unrefused, carries_fit, written_carries, carries_accepted}
+use Rattle.card_writer.proofs.Listing.{fit_unrefused, carries_fit, written_carries}
 use Rattle.card_writer.proofs.write.write.Goals as goal
 
 pub returns-in_err-check_legs-clause-same_octets : goal.returns-in_err-check_legs-clause-same_octets
@@ -20,4 +21,4 @@ returns-clause-reads_back g c =
     let n = length c.args.card.now in
     let fit = subst (λ (room : ℕ). Fit K room ls) c.capacity.ensures c.in_ok-check_legs.ensures in
     let done = c.put_legs.ensures ∙ ap (written K ls) (ap length c.begin.ensures ∙ started_length K n) in
-    λ long chained. let h = written_carries K n ls _ long fit chained done in (h, carries_accepted K g.met.P.Ordinate.lawful _ ls h)
+    λ long chained. let h = written_carries K n ls _ long fit chained done in (h, carried_accepted K _ g.met.P.Ordinate.lawful ls h)

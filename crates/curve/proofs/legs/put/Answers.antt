@@ -1,8 +1,7 @@
 use Rattle.std.proofs.Common.{[], ◌∷◌, length}
-use Rattle.std.proofs.lemmas.Result.{err_from_is_err_and}
-use Rattle.leg.proofs.Reasoned.{first_now}
 use Rattle.outlet.specs.Outlets.{room}
 use Rattle.curve.specs.Refusals.{bent, crowded, early_reasons}
+use Rattle.curve.proofs.Exits.{handed_on}
 use Rattle.curve.proofs.legs.put.Goals as goal
 
 pub returns-in_err-used-clause-first : goal.returns-in_err-used-clause-first
@@ -13,5 +12,4 @@ returns-in_err-used-clause-first g c =
     let t = c.args.accuracy.tolerance in
     let D = c.args.accuracy.depth in
     let ps = c.args.points.now in
-    let p = err_from_is_err_and c.from_residual.result c.from_residual.ensures.1 in
-    rw (p.1, p.2) (first_now (early_reasons K M R D ps (length c.args.work.now)) (bent K M R t D ps ∷ crowded K M R t D ps (room (g.O.Outlet.contents c.args.outlet.now)) ∷ []) _ c.in_err-used.ensures.first)
+    handed_on (early_reasons K M R D ps (length c.args.work.now)) (bent K M R t D ps ∷ crowded K M R t D ps (room (g.O.Outlet.contents c.args.outlet.now)) ∷ []) _ _ c.from_residual.ensures.1 c.in_err-used.ensures.first

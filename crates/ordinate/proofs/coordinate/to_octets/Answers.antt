@@ -1,4 +1,4 @@
-use Rattle.std.proofs.Common.{◌≡◌, sym, ap, ◌∙◌, w64, of_z}
+use Rattle.std.proofs.Common.{sym, ap, ◌∙◌, w64, of_z}
 use Rattle.std.proofs.lemmas.Int.{to_z-of_z}
 use Rattle.ordinate.specs.Octets.{be}
 use Rattle.ordinate.specs.Laws.Octets.{be_8, twos_is}

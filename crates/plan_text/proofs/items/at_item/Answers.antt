@@ -24,17 +24,17 @@ returns-in_err-second c =
     rw c.from_residual-in_err-second.ensures
     (no_second c.args.lexer c.in_ok-list.field-0 (c.in_ok-list.ensures at_word) c.in_ok-first.first c.in_ok-first.rest c.in_ok-first.ensures c.in_default.ensures c.in_err-second.ensures)
 
-pub returns-in_err-closing : goal.returns-in_err-closing
-returns-in_err-closing c =
-    rw c.from_residual-in_err-closing.ensures
+pub returns-in_err-pass : goal.returns-in_err-pass
+returns-in_err-pass c =
+    rw c.from_residual-in_err-pass.ensures
     (not_closed_at c.args.lexer c.in_ok-list.field-0 (c.in_ok-list.ensures at_word) c.in_ok-first.first c.in_ok-first.rest c.in_ok-first.ensures c.in_default.ensures
-    c.in_ok-second.second c.in_ok-second.rest c.in_ok-second.ensures c.in_err-closing.ensures)
+    c.in_ok-second.second c.in_ok-second.rest c.in_ok-second.ensures c.in_err-pass.ensures)
 
 pub returns : goal.returns
 returns c =
     let one : SFits w64 c.in_ok-first.first = search rules in
     let two : SFits w64 c.in_ok-second.second = search rules in
-    subst (λ z. ReadsOne at_marks IsTypedAt c.args.lexer (Two z (to_z w64 (of_z w64 c.in_ok-second.second))) c.in_ok-closing.field-0) (sym (to_z-of_z w64 _ one))
-    (subst (λ z. ReadsOne at_marks IsTypedAt c.args.lexer (Two c.in_ok-first.first z) c.in_ok-closing.field-0) (sym (to_z-of_z w64 _ two))
+    subst (λ z. ReadsOne at_marks IsTypedAt c.args.lexer (Two z (to_z w64 (of_z w64 c.in_ok-second.second))) c.in_ok-pass.field-0) (sym (to_z-of_z w64 _ one))
+    (subst (λ z. ReadsOne at_marks IsTypedAt c.args.lexer (Two c.in_ok-first.first z) c.in_ok-pass.field-0) (sym (to_z-of_z w64 _ two))
     (two_read c.args.lexer c.in_ok-list.field-0 (c.in_ok-list.ensures at_word) c.in_ok-first.first c.in_ok-first.rest c.in_ok-first.ensures c.in_default.ensures
-    c.in_ok-second.second c.in_ok-second.rest c.in_ok-second.ensures c.in_ok-closing.field-0 c.in_ok-closing.ensures))
+    c.in_ok-second.second c.in_ok-second.rest c.in_ok-second.ensures c.in_ok-pass.field-0 c.in_ok-pass.ensures))

@@ -15,17 +15,17 @@ returns-in_err-number c g =
     let k = c.in_ok-list.field-0 in
     rw c.from_residual-in_err-number.ensures (no_part number HasFewDigits c.args.name.now c.args.lexer k (c.in_ok-list.ensures g) (reads_no_number k c.in_err-number.ensures))
 
-pub returns-in_err-closing : goal.returns-in_err-closing
-returns-in_err-closing c g =
+pub returns-in_err-pass : goal.returns-in_err-pass
+returns-in_err-pass c g =
     let k = c.in_ok-list.field-0 in
     let k' = c.in_ok-number.rest in
-    rw c.from_residual-in_err-closing.ensures
-    (no_close number HasFewDigits c.args.name.now c.args.lexer k (c.in_ok-list.ensures g) k' c.in_ok-number.number (reads_number k k' c.in_ok-number.number c.in_ok-number.ensures) c.in_err-closing.ensures)
+    rw c.from_residual-in_err-pass.ensures
+    (no_close number HasFewDigits c.args.name.now c.args.lexer k (c.in_ok-list.ensures g) k' c.in_ok-number.number (reads_number k k' c.in_ok-number.number c.in_ok-number.ensures) c.in_err-pass.ensures)
 
 pub returns : goal.returns
 returns c g =
     let k = c.in_ok-list.field-0 in
     let k' = c.in_ok-number.rest in
     let fits : SFits w64 c.in_ok-number.number = search rules in
-    subst (λ z. ReadsOne (number_marks c.args.name.now) HasFewDigits c.args.lexer z c.in_ok-closing.field-0) (sym (to_z-of_z w64 _ fits))
-    (field_read number HasFewDigits c.args.name.now c.args.lexer k (c.in_ok-list.ensures g) k' c.in_ok-number.number (reads_number k k' c.in_ok-number.number c.in_ok-number.ensures) c.in_ok-closing.field-0 c.in_ok-closing.ensures)
+    subst (λ z. ReadsOne (number_marks c.args.name.now) HasFewDigits c.args.lexer z c.in_ok-pass.field-0) (sym (to_z-of_z w64 _ fits))
+    (field_read number HasFewDigits c.args.name.now c.args.lexer k (c.in_ok-list.ensures g) k' c.in_ok-number.number (reads_number k k' c.in_ok-number.number c.in_ok-number.ensures) c.in_ok-pass.field-0 c.in_ok-pass.ensures)

@@ -13,15 +13,15 @@ returns-in_err-word c g =
     let k = c.in_ok-list.field-0 in
     rw c.from_residual-in_err-word.ensures (no_part word IsWord c.args.name.now c.args.lexer k (c.in_ok-list.ensures g) (λ w ms h s. missed k (word w) (c.in_err-word.ensures w) ms h s))
 
-pub returns-in_err-closing : goal.returns-in_err-closing
-returns-in_err-closing c g =
+pub returns-in_err-pass : goal.returns-in_err-pass
+returns-in_err-pass c g =
     let k = c.in_ok-list.field-0 in
     let k' = c.in_ok-word.rest in
-    rw c.from_residual-in_err-closing.ensures
-    (no_close word IsWord c.args.name.now c.args.lexer k (c.in_ok-list.ensures g) k' c.in_ok-word.word.now (reads_word k k' c.in_ok-word.word.now c.in_ok-word.ensures) c.in_err-closing.ensures)
+    rw c.from_residual-in_err-pass.ensures
+    (no_close word IsWord c.args.name.now c.args.lexer k (c.in_ok-list.ensures g) k' c.in_ok-word.word.now (reads_word k k' c.in_ok-word.word.now c.in_ok-word.ensures) c.in_err-pass.ensures)
 
 pub returns : goal.returns
 returns c g =
     let k = c.in_ok-list.field-0 in
     let k' = c.in_ok-word.rest in
-    field_read word IsWord c.args.name.now c.args.lexer k (c.in_ok-list.ensures g) k' c.in_ok-word.word.now (reads_word k k' c.in_ok-word.word.now c.in_ok-word.ensures) c.in_ok-closing.field-0 c.in_ok-closing.ensures
+    field_read word IsWord c.args.name.now c.args.lexer k (c.in_ok-list.ensures g) k' c.in_ok-word.word.now (reads_word k k' c.in_ok-word.word.now c.in_ok-word.ensures) c.in_ok-pass.field-0 c.in_ok-pass.ensures

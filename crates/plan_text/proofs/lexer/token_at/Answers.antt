@@ -2,17 +2,11 @@ use Rattle.std.proofs.Common.{◌++◌, drop, sym, ap, ◌∙◌, subst, arith, 
 use Rattle.std.proofs.lemmas.Int.{to_z-of_z}
 use Rattle.plan_text.specs.Lexing.{Begins}
 use Rattle.plan_text.specs.Tokens.{number}
-use Rattle.plan_text.proofs.Taken.{none_past, none_space, one_octet, run_at, some, plain, split, stops_there}
+use Rattle.plan_text.proofs.Taken.{none_past, none_space, run_at, some, plain, split, stops_there}
 use Rattle.plan_text.proofs.lexer.token_at.Goals as goal
 
 pub returns-then-place-line : goal.returns-then-place-line
 returns-then-place-line c = none_past c.args.line.now c.args.place (omega arith)
-
-pub returns-then-line-place-eq40 : goal.returns-then-line-place-eq40
-returns-then-line-place-eq40 c = record { mark = tt; ends = tt; whole = one_octet c.args.line.now c.args.place 40 (omega arith) (omega arith) }
-
-pub returns-then-line-place-eq41 : goal.returns-then-line-place-eq41
-returns-then-line-place-eq41 c = record { mark = tt; ends = tt; whole = one_octet c.args.line.now c.args.place 41 (omega arith) (omega arith) }
 
 pub returns-then-line-place-eq32 : goal.returns-then-line-place-eq32
 returns-then-line-place-eq32 c = none_space c.args.line.now c.args.place (omega arith) (omega arith)

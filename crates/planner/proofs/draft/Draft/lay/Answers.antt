@@ -8,7 +8,6 @@ use Rattle.turn.specs.Calls.{Progress, lay}
 use Rattle.turn.specs.Outcomes.{Outcome}
 use Rattle.turn.specs.Reasons.{facing, reasons}
 use Rattle.turn.specs.Settings.{Setting}
-use Rattle.turn.specs.declared.answer.Answer.TheVariants.{Accepted}
 use Rattle.turn.proofs.Kept.{kept}
 use Rattle.planner.specs.Drafts.{progress, setting}
 use Rattle.planner.specs.Steps.{Puts}
@@ -25,7 +24,8 @@ returns-in-Err-clause-outcome g c =
     let A : Setting g.row.P.Denot = setting g.P.Ordinate.kind g.P.Distance.measure g.R.Reduction.rule d in
     let fits : FitsSigned w64 c.args.ticks = search rules in
     let e = to_z-of_z w64 c.args.ticks fits in
-    record { answer = subst (λ (l : ℤ). First (reasons A (facing A (progress d) o) (lay ps l work)) (Some c.in-Err.refusal)) e (c.in-Err.ensures.refused.1 work); effect = (refl, c.in-Err.ensures.same) }
+    rw c.refused.ensures
+    (record { answer = subst (λ (l : ℤ). First (reasons A (facing A (progress d) o) (lay ps l work)) (Some c.in-Err.refusal)) e (c.in-Err.ensures.refused.1 work); effect = (refl, c.in-Err.ensures.same) })
 
 pub returns-in-Err-clause-keeps : goal.returns-in-Err-clause-keeps
 returns-in-Err-clause-keeps g c = λ h w.
@@ -44,10 +44,11 @@ returns-in-Err-put_span-clause-outcome g c =
     let e = to_z-of_z w64 c.args.ticks fits in
     let same = c.next_span.ensures.same in
     let answer = subst (λ (q : Contents g.row.P.Denot). First (reasons A (facing A (progress d) q) (lay ps (pos c.in-Ok.span.ticks) work)) (Some c.in-Err-put_span.refusal)) same c.in-Err-put_span.ensures.first in
-    record {
+    rw c.refused-in-Err-put_span.ensures
+    (record {
       answer = subst (λ (l : ℤ). First (reasons A (facing A (progress d) o) (lay ps l work)) (Some c.in-Err-put_span.refusal)) (c.in-Ok.ensures.fits.1 ∙ e) answer;
       effect = (refl, c.in-Err-put_span.ensures.puts ∙ same);
-    }
+    })
 
 pub returns-in-Err-put_span-clause-keeps : goal.returns-in-Err-put_span-clause-keeps
 returns-in-Err-put_span-clause-keeps g c = λ h w.
@@ -73,7 +74,7 @@ returns-clause-outcome g c =
     let now : Progress g.row.P.Denot = record { count = c.count.result; laid = d.laid + c.ticks.result; end_value = c.copied.result } in
     let last = c.copied.ensures ∙ c.last.ensures.value ∙ slice_get-get_or ps (length ps - 1) (blank A.kind) (omega arith) in
     let out = laid_outcome A (progress d) o ps c.in-Ok.span fits work c.args.ticks (c.in-Ok.ensures.fits.1 ∙ e) first after puts now c.count.ensures.value (ap (λ (n : ℕ). d.laid + n) c.ticks.ensures) last in
-    subst (λ (q : Contents g.row.P.Denot). Outcome A (lay ps c.args.ticks work) (progress d) o Accepted now q) (sym c.count.ensures.same) out
+    subst (λ (q : Contents g.row.P.Denot). Outcome A (lay ps c.args.ticks work) (progress d) o (Ok tt) now q) (sym c.count.ensures.same) out
 
 pub returns-clause-keeps : goal.returns-clause-keeps
 returns-clause-keeps g c = λ h w.

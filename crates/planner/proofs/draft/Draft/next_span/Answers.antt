@@ -1,53 +1,34 @@
-use Rattle.std.proofs.Common.{◌∙◌, FitsSigned, pos, ◌+ℤ◌, ◌<ℤ◌, ◌≤ℤ◌, Some, ap, arith, inl, inr, refl, rules, subst, sym, w64}
+use Rattle.std.proofs.Common.{◌∙◌, FitsSigned, pos, ◌+ℤ◌, ◌<ℤ◌, ◌≤ℤ◌, ◌⊎◌, ℤ, arith, refl, of_z, rules, subst, sym, to_z, w64}
 use Rattle.std.proofs.lemmas.Int.{ints, to_z-of_z}
-use Rattle.leg.specs.Reasons.{First}
-use Rattle.turn.specs.Calls.{lay}
-use Rattle.turn.specs.Reasons.{facing, reasons}
 use Rattle.turn.specs.Settings.{Setting}
-use Rattle.turn.specs.declared.answer.Answer.TheVariants.{Refused}
-use Rattle.turn.specs.declared.refusal.Refusal.{Refusal}
 use Rattle.turn.proofs.Laying.{lay_past_end, lay_points, lay_ticks}
-use Rattle.planner.specs.Drafts.{halving_begun, progress, setting}
+use Rattle.planner.specs.Drafts.{progress, setting}
+use Rattle.planner.proofs.Begun.{converted}
 use Rattle.planner.proofs.Laid.{points_not_begun}
+use Rattle.planner.proofs.Ranges.{outside, within}
 use Rattle.planner.proofs.draft.Draft.next_span.Goals as goal
 
-pub returns-in-Err-clause-refused : goal.returns-in-Err-clause-refused
-returns-in-Err-clause-refused g c =
-    let K = g.P.Ordinate.kind in
-    let M = g.P.Distance.measure in
-    let R = g.R.Reduction.rule in
+pub returns-in_err-check_points-clause-refused : goal.returns-in_err-check_points-clause-refused
+returns-in_err-check_points-clause-refused g c =
     let d = c.args.self.now in
     let o = g.O.Outlet.contents c.args.outlet.now in
     let ps = c.args.points.now in
-    let f = c.in-Err.refusal in
-    let A : Setting g.row.P.Denot = setting K M R d in
-    let e = c.from.ensures.0 in
-    let ours = sym c.count.ensures.value ∙ c.if-count-self.false in (
-      ap (λ (r : Refusal). halving_begun (Refused r)) e ∙ points_not_begun K M R ps f c.in-Err.ensures.first,
-      λ work. subst (λ (r : Refusal). First (reasons A (facing A (progress d) o) (lay ps c.args.ticks work)) (Some r)) (sym e) (lay_points A (progress d) o ps c.args.ticks work ours f c.in-Err.ensures.first),
-    )
+    let f = c.in_err-check_points.field-0.0 in
+    let A : Setting g.row.P.Denot = setting g.P.Ordinate.kind g.P.Distance.measure g.R.Reduction.rule d in
+    let ours = sym c.count.ensures.value ∙ c.if-count-self.false in
+    rw (converted c.from_residual.result f c.from_residual.ensures.1)
+    (points_not_begun A.kind A.measure A.rule ps f c.in_err-check_points.ensures.first, λ work. lay_points A (progress d) o ps c.args.ticks work ours f c.in_err-check_points.ensures.first)
 
-pub returns-then-ticks-lt1-clause-refused : goal.returns-then-ticks-lt1-clause-refused
-returns-then-ticks-lt1-clause-refused g c =
-    let fits : FitsSigned w64 c.args.ticks = search rules in
-    let e = to_z-of_z w64 c.args.ticks fits in
+pub returns-then-not-contains-clause-refused : goal.returns-then-not-contains-clause-refused
+returns-then-not-contains-clause-refused g c =
     let d = c.args.self.now in
     let o = g.O.Outlet.contents c.args.outlet.now in
     let A : Setting g.row.P.Denot = setting g.P.Ordinate.kind g.P.Distance.measure g.R.Reduction.rule d in
     let ours = sym c.count.ensures.value ∙ c.if-count-self.false in
-    let less : c.args.ticks <ℤ pos 1 = omega (arith, ints) in
-    (refl, λ work. lay_ticks A (progress d) o c.args.points.now c.args.ticks work ours c.in_default.ensures.first (inl less))
-
-pub returns-then-ticks-gt-MOST_TICKS-clause-refused : goal.returns-then-ticks-gt-MOST_TICKS-clause-refused
-returns-then-ticks-gt-MOST_TICKS-clause-refused g c =
     let fits : FitsSigned w64 c.args.ticks = search rules in
-    let e = to_z-of_z w64 c.args.ticks fits in
-    let d = c.args.self.now in
-    let o = g.O.Outlet.contents c.args.outlet.now in
-    let A : Setting g.row.P.Denot = setting g.P.Ordinate.kind g.P.Distance.measure g.R.Reduction.rule d in
-    let ours = sym c.count.ensures.value ∙ c.if-count-self.false in
-    let more : pos 4096 <ℤ c.args.ticks = omega (arith, ints) in
-    (refl, λ work. lay_ticks A (progress d) o c.args.points.now c.args.ticks work ours c.in_default.ensures.first (inr more))
+    let r = rw (c.new.ensures.exhausted, c.new.ensures.start, c.new.ensures.end) at (sym c.contains.ensures.value ∙ c.if-not-contains.true) in
+    let out = subst (λ (x : ℤ). (x <ℤ pos 1) ⊎ (pos 4096 <ℤ x)) (to_z-of_z w64 c.args.ticks fits) (outside (pos 1) (pos 4096) (to_z w64 (of_z w64 c.args.ticks)) r) in
+    (refl, λ work. lay_ticks A (progress d) o c.args.points.now c.args.ticks work ours c.in_ok-check_points.ensures.first out)
 
 pub returns-then-ticks-self-clause-refused : goal.returns-then-ticks-self-clause-refused
 returns-then-ticks-self-clause-refused g c =
@@ -59,7 +40,9 @@ returns-then-ticks-self-clause-refused g c =
     let ours = sym c.count.ensures.value ∙ c.if-count-self.false in
     let timely = d.timely in
     let inside = d.inside in
-    let some : pos 1 ≤ℤ c.args.ticks = omega (arith, ints) in
-    let brief : c.args.ticks ≤ℤ pos 4096 = omega (arith, ints) in
+    let r = rw (c.new.ensures.exhausted, c.new.ensures.start, c.new.ensures.end) at (sym c.contains.ensures.value ∙ c.if-not-contains.false) in
+    let i = within (pos 1) (pos 4096) (to_z w64 (of_z w64 c.args.ticks)) r in
+    let some : pos 1 ≤ℤ c.args.ticks = omega (arith, ints, i.0) in
+    let brief : c.args.ticks ≤ℤ pos 4096 = omega (arith, ints, i.1) in
     let late : pos d.end <ℤ (pos d.laid +ℤ c.args.ticks) = omega (arith, ints) in
-    (refl, λ work. lay_past_end A (progress d) o c.args.points.now c.args.ticks work ours c.in_default.ensures.first (λ h. omega (arith, ints)) (λ h. omega (arith, ints)) late)
+    (refl, λ work. lay_past_end A (progress d) o c.args.points.now c.args.ticks work ours c.in_ok-check_points.ensures.first (λ h. omega (arith, ints)) (λ h. omega (arith, ints)) late)

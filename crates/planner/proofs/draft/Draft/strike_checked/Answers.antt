@@ -18,7 +18,7 @@ returns-in_default-clause-outcome g c =
     let after = c.last_of.ensures.same ∙ c.count-count.ensures.same in
     let told = c.last_of.ensures.value ∙ ap (λ (x : Contents g.row.P.Denot). last_leg x.legs) c.count-count.ensures.same in
     let empty = none_left o.legs (sym told ∙ c.in_default.is) in
-    record { answer = inr ((λ e y. y.0 ours), inl (Empty, (omega arith, refl), refl)); effect = (refl, after) }
+    rw c.refused-in_default.ensures (record { answer = inr ((λ e y. y.0 ours), inl (Empty, (omega arith, refl), refl)); effect = (refl, after) })
 
 pub returns-then-ends-self-clause-outcome : goal.returns-then-ends-self-clause-outcome
 returns-then-ends-self-clause-outcome g c =
@@ -31,7 +31,7 @@ returns-then-ends-self-clause-outcome g c =
     let l = c.in-Some.last in
     let last : last_leg o.legs ≡ Some l = sym told ∙ c.in-Some.is in
     let some : c.args.self.count ≡ 0 → ⊥ = (λ z. let n = none_last o.legs (omega arith) in cc) in
-    record { answer = strike_torn A (progress c.args.self) o ours some l last (inl c.if-ends-self.true); effect = (refl, after) }
+    rw c.refused-then-ends-self.ensures (record { answer = strike_torn A (progress c.args.self) o ours some l last (inl c.if-ends-self.true); effect = (refl, after) })
 
 pub returns-then-not-is_last_cell-clause-outcome : goal.returns-then-not-is_last_cell-clause-outcome
 returns-then-not-is_last_cell-clause-outcome g c =
@@ -44,7 +44,7 @@ returns-then-not-is_last_cell-clause-outcome g c =
     let l = c.in-Some.last in
     let last : last_leg o.legs ≡ Some l = sym told ∙ c.in-Some.is in
     let some : c.args.self.count ≡ 0 → ⊥ = (λ z. let n = none_last o.legs (omega arith) in cc) in
-    record { answer = strike_torn A (progress c.args.self) o ours some l last (inr (λ e. let no = c.if-not-is_last_cell.ensures.1 e in absurd (cc))); effect = (refl, after) }
+    rw c.refused-then-not-is_last_cell.ensures (record { answer = strike_torn A (progress c.args.self) o ours some l last (inr (λ e. let no = c.if-not-is_last_cell.ensures.1 e in absurd (cc))); effect = (refl, after) })
 
 pub returns-clause-outcome : goal.returns-clause-outcome
 returns-clause-outcome g c =

@@ -1,2 +1,0 @@
--- Proofs that the prover wants beside the definitions. Nobody has to read them.
-pub mod Collected
