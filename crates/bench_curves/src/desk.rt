@@ -22,7 +22,7 @@ fn draw_degree<P: Distance, R: Reduction<P>>(random: &mut Generator) -> usize
     ensures { result ≤ 8 }
 {
     let lowest = R::lowest();
-    lowest + random.below(9 - lowest as u64) as usize
+    lowest + random.below((MOST_POINTS - lowest) as u64) as usize
 }
 
 /// A power of two from 2^6 to 2^31.
@@ -86,6 +86,7 @@ impl<P: Distance + Drop> Desk<P> {
         requires { size ≤ 2 ^ 31 }
     {
         self.points.clear();
+        // so many times: there is no list
         for _ in 0..=degree {
             self.points.push(draw_point::<P>(random, size))?;
         }

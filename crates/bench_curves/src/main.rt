@@ -43,6 +43,7 @@ fn lay_curves(heap: Global, number: u64) -> anyhow::Result<Totals> {
     let mut boxes = Desk::<Branches>::new(heap, span)?;
     let mut random = Generator::seeded();
     let mut totals = Totals::none();
+    // so many times: there is no list
     for _ in 0..number {
         if random.below(2) == 0 {
             flows.lay_next(&mut random, &mut totals)?;

@@ -23,9 +23,6 @@ impl<P: Distance> Reduction<P> for Chord {
     }
 
     fn middle(points: &[P]) -> P {
-        match points.first() {
-            Some(first) => *first,
-            None => P::zero(),
-        }
+        points.first().copied().unwrap_or(P::zero())
     }
 }

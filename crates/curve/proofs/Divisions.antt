@@ -11,7 +11,7 @@ use Rattle.curve.proofs.Pieces.{each_append, found}
 
 -- ---- lists that cover
 
-covers_le : (D a : ℕ) (cs : List Cell) (b : ℕ) → Covers D a cs b → a ≤ b
+pub covers_le : (D a : ℕ) (cs : List Cell) (b : ℕ) → Covers D a cs b → a ≤ b
 covers_le D a [] b h = omega arith
 covers_le D a (c ∷ cs) b h = let r : end D c ≤ b = covers_le D (end D c) cs b h.1 in let p = begin<end D c in omega arith
 

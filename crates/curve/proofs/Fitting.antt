@@ -44,6 +44,21 @@ map_over : {X Y Z : Type 0} (f : X → Y) (g : Y → Z) (xs : List X) → map g 
 map_over f g [] = refl
 map_over f g (x ∷ xs) = ap (λ zs. g (f x) ∷ zs) (map_over f g xs)
 
+pub one_or_two : (m : Degree) → (number m ≡ 1) ⊎ (number m ≡ 2)
+one_or_two One = inl refl
+one_or_two Two = inr refl
+
+pub straight : (m : Degree) → number m ≡ 1 → m ≡ One
+straight One e = refl
+straight Two e = absurd (omega arith)
+
+module _ {P : Type 0} (K : Kind P) (M : Measure) (measured : LawfulMeasure K M) where
+  pub in_range : (p : P) → Reaches K (4 * M.limit) p → InRange K p
+  in_range p r i h = rw (measured.least, measured.greatest) (r i h)
+
+  pub wide : (p : P) → Reaches K M.limit p → InRange K p
+  wide p r = in_range p (λ i h. in_between (K.coordinate p i) (4 * M.limit) (widen (K.coordinate p i) M.limit (4 * M.limit) (omega arith) (between_in (K.coordinate p i) M.limit (r i h))))
+
 module _ {P : Type 0} (K : Kind P) (M : Measure) (R : Rule P) (t D : ℕ) (ps : List P) where
   abbrev found : Option (List Cell)
   found = halving D (passing K M R t ps)
@@ -121,20 +136,6 @@ module _ {P : Type 0} (K : Kind P) (M : Measure) (R : Rule P) (t D : ℕ) (ps : 
     judged None e = (inl (TooBent, (too_bent e, refl), refl), tt)
     judged (Some y) e = let f = told y e in (inr ((λ r h. h.0 (divisible y f)), refl), (f.cells, fitted y f, f.legs, f.tries))
 
-    in_range : (p : P) → Reaches K (4 * M.limit) p → InRange K p
-    in_range p r i h = rw (measured.least, measured.greatest) (r i h)
-
-    wide : (p : P) → Reaches K M.limit p → InRange K p
-    wide p r = in_range p (λ i h. in_between (K.coordinate p i) (4 * M.limit) (widen (K.coordinate p i) M.limit (4 * M.limit) (omega arith) (between_in (K.coordinate p i) M.limit (r i h))))
-
-    one_or_two : (m : Degree) → (number m ≡ 1) ⊎ (number m ≡ 2)
-    one_or_two One = inl refl
-    one_or_two Two = inr refl
-
-    straight : (m : Degree) → number m ≡ 1 → m ≡ One
-    straight One e = refl
-    straight Two e = absurd (omega arith)
-
     module _ (S L : ℕ) (some_ticks : 1 ≤ L) (brief : L ≤ 4096) (timely : S + L ≤ 65536) (shallow : D ≤ 10) where
       is_leg : (c : Cell) → Allowed D (passing K M R t ps) c → IsLeg K (piece_leg K R S L (of_cell c))
       is_leg c a =
@@ -147,9 +148,9 @@ module _ {P : Type 0} (K : Kind P) (M : Measure) (R : Rule P) (t D : ℕ) (ps : 
             place = record { begins = omega arith; lasts = some_ticks; brief = brief; ends = timely; shallow = omega (arith, a.shallow); inside = a.inside };
             one_or_two = one_or_two R.degree;
             straight = λ e. lawful.straight (straight R.degree e) qs;
-            start_in = wide (point K qs 0) (inside 0 (omega arith));
-            middle_in = in_range (R.middle qs) (lawful.near qs (omega arith) (omega arith) inside);
-            end_in = wide (point K qs (degree_of K qs)) (inside (degree_of K qs) (omega arith));
+            start_in = wide K M measured (point K qs 0) (inside 0 (omega arith));
+            middle_in = in_range K M measured (R.middle qs) (lawful.near qs (omega arith) (omega arith) inside);
+            end_in = wide K M measured (point K qs (degree_of K qs)) (inside (degree_of K qs) (omega arith));
           }
 
       pub ready : (y : Tally) (f : Found y) (o : Contents P) → y.legs ≤ room o → Ready K (piece_leg K R S L) (pieces K M R t D (piece whole ps)) o

@@ -18,7 +18,6 @@ use crate::work::wipe;
 use bezier::reduction::Reduction;
 use distance::measure::Distance;
 use outlet::outlet::Outlet;
-use std::marker::PhantomData;
 
 // Each of these asks for enough work points: a type that kept the fact could not lend them on to be written.
 
@@ -81,12 +80,7 @@ pub fn count<P: Distance, R: Reduction<P>>(
     ensures value { IfOk result (λ y. Counted P.Ordinate.kind P.Distance.measure R.Reduction.rule accuracy.tolerance accuracy.depth points.now y) }
     ensures work { work.new ≡ work_after P.Ordinate.kind P.Distance.measure R.Reduction.rule result (work_wanted P.Ordinate.kind P.Distance.measure R.Reduction.rule accuracy.depth points.now) work.old }
 {
-    let used = check_work::<P, R>(points, accuracy, work.len())?;
-    let curve = Drawn::<P, R> {
-        points,
-        accuracy,
-        reduction: PhantomData,
-    };
+    let (curve, used) = check_work::<P, R>(points, accuracy, work.len())?;
     let answer = count_begun(&curve, &mut work[..used]);
     wipe(&mut work[..used]);
     answer
@@ -104,12 +98,7 @@ pub fn put<P: Distance, R: Reduction<P>, O: Outlet<P>>(
     ensures puts { PutLegs P.Ordinate.kind P.Distance.measure R.Reduction.rule accuracy.tolerance accuracy.depth span.from span.ticks points.now result (O.Outlet.contents outlet.old) (O.Outlet.contents outlet.new) }
     ensures work { work.new ≡ work_after P.Ordinate.kind P.Distance.measure R.Reduction.rule result (work_wanted P.Ordinate.kind P.Distance.measure R.Reduction.rule accuracy.depth points.now) work.old }
 {
-    let used = check_work::<P, R>(points, accuracy, work.len())?;
-    let curve = Drawn::<P, R> {
-        points,
-        accuracy,
-        reduction: PhantomData,
-    };
+    let (curve, used) = check_work::<P, R>(points, accuracy, work.len())?;
     let answer = lay_begun(&curve, span, &mut work[..used], outlet);
     wipe(&mut work[..used]);
     answer

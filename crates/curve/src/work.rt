@@ -8,6 +8,5 @@ use distance::measure::Distance;
 pub(crate) fn wipe<P: Distance>(work: &mut [P])
     ensures { work.new ≡ replicate (length work.old) (blank P.Ordinate.kind) }
 {
-    // Not `fill`: it asks for a clone that cannot fail, which a kind's points need not promise.
-    work.fill_with(|| P::zero());
+    work.fill(P::zero());
 }

@@ -16,7 +16,7 @@ pub stripped : (text : List ℕ) (r : Option (Bor (List ℕ)))
     → MatchOption r ((rest : List ℕ) → text ≢ 45 ∷ rest) (λ x. text ≡ 45 ∷ x.now)
 stripped text r told = strip_prefix_is unsigned_Decides text (45 ∷ []) r told
 
-tail_same : (b c : ℕ) (x y : List ℕ) → b ∷ x ≡ c ∷ y → x ≡ y
+pub tail_same : (b c : ℕ) (x y : List ℕ) → b ∷ x ≡ c ∷ y → x ≡ y
 tail_same b c x y e = cc
 
 -- what may not be typed for a number is the text of none

@@ -26,16 +26,13 @@ impl Distance for Branches {
     }
 
     fn is_within(self, r: i64) -> bool {
-        if !is_bounded(self.left, r) {
-            return false;
-        }
-        if !is_bounded(self.right, r) {
-            return false;
-        }
-        match self.left.checked_add(self.right) {
-            Some(both) => is_bounded(both, r),
-            // a sum beyond 64 bits is beyond every r
-            None => false,
-        }
+        is_bounded(self.left, r)
+            && is_bounded(self.right, r)
+            // a `match`: the proof does not see what a closure given to `is_some_and` answers
+            && match self.left.checked_add(self.right) {
+                Some(both) => is_bounded(both, r),
+                // a sum beyond 64 bits is beyond every r
+                None => false,
+            }
     }
 }

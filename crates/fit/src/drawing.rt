@@ -13,21 +13,13 @@ pub struct Drawing {
     pub coordinates: Vec<i64>,
 }
 
-/// The point with these coordinates.
-fn point_of<P: Distance>(coordinates: &[i64]) -> P {
-    let mut point = P::zero();
-    for (i, coordinate) in coordinates.iter().enumerate() {
-        point = point.with_coordinate(i, *coordinate);
-    }
-    point
-}
-
 impl Drawing {
     /// The points, each of as many coordinates as the kind has.
     pub fn points<P: Distance>(&self, heap: Global) -> Result<Vec<P>, AllocError> {
         let mut points = Vec::new(heap);
         for point in self.coordinates.chunks_exact(P::dimension()) {
-            points.push(point_of(point))?;
+            let numbered = point.iter().enumerate();
+            points.push(numbered.fold(P::zero(), |point, (i, x)| point.with_coordinate(i, *x)))?;
         }
         Ok(points)
     }

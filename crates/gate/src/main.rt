@@ -8,7 +8,7 @@ mod told;
 use crate::example::{LENGTH, put_example};
 use crate::request::Request;
 use crate::told::{tell_box, tell_flow};
-use anyhow::bail;
+use anyhow::{anyhow, bail};
 use card::any::{AnyLegs, read_any};
 use card::refusal::ReadError;
 use program::exit_code;
@@ -23,12 +23,11 @@ and prints its legs and, for a flow card, its value at every tick, or at each TI
 With --example, writes an example card to the file FILE.";
 
 /// The octets of the card that is asked for.
-fn octets_of(rt: &HostRuntime, path: Option<&str>) -> anyhow::Result<Vec<u8>> {
+fn octets_of(rt: &HostRuntime, path: &Option<String>) -> anyhow::Result<Vec<u8>> {
     if let Some(path) = path {
-        return match fs::read(rt, path) {
-            Ok(octets) => Ok(octets),
-            Err(error) => bail!("cannot read '{path}': {error}"),
-        };
+        return fs::read(rt, path.as_str()).map_err(|error| anyhow!(
+            "cannot read '{path}': {error}"
+        ));
     }
     let mut octets = Vec::new(rt.alloc());
     rt.stdin().read_to_end(&mut octets)?;
@@ -68,12 +67,11 @@ fn run(rt: &HostRuntime) -> anyhow::Result<bool> {
             println!(rt; "{USAGE}")?;
             Ok(true)
         }
-        Request::StandardInput { ticks } => tell(rt, &octets_of(rt, None)?, &ticks),
         Request::Example { path } => {
             write_example(rt, path.as_str())?;
             Ok(true)
         }
-        Request::File { path, ticks } => tell(rt, &octets_of(rt, Some(path.as_str()))?, &ticks),
+        Request::Card { path, ticks } => tell(rt, &octets_of(rt, &path)?, &ticks),
     }
 }
 

@@ -6,9 +6,14 @@ use std::env::Args;
 #[derive(Drop)]
 pub enum Request {
     Help,
-    File { path: String, ticks: Vec<u32> },
-    StandardInput { ticks: Vec<u32> },
-    Example { path: String },
+    /// A card in a file, or on standard input.
+    Card {
+        path: Option<String>,
+        ticks: Vec<u32>,
+    },
+    Example {
+        path: String,
+    },
 }
 
 fn tick_of(text: &str) -> anyhow::Result<u32> {
@@ -39,12 +44,14 @@ impl Request {
     pub fn from_args(heap: Global, mut args: Args) -> anyhow::Result<Request> {
         args.next();
         let Some(first) = args.next() else {
-            return Ok(Request::StandardInput {
+            return Ok(Request::Card {
+                path: None,
                 ticks: Vec::new(heap),
             });
         };
         match first.as_str() {
-            "-" => Ok(Request::StandardInput {
+            "-" => Ok(Request::Card {
+                path: None,
                 ticks: ticks_of(heap, args)?,
             }),
             "--help" | "-h" => Ok(Request::Help),
@@ -54,8 +61,8 @@ impl Request {
             option if option.starts_with('-') => {
                 bail!("there is no option '{option}'; try 'gate --help'")
             }
-            _ => Ok(Request::File {
-                path: first,
+            _ => Ok(Request::Card {
+                path: Some(first),
                 ticks: ticks_of(heap, args)?,
             }),
         }

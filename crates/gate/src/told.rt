@@ -74,6 +74,7 @@ fn tell_all_ticks(rt: &HostRuntime, legs: &[Leg<Flow>]) -> anyhow::Result<()> {
     if legs.len() == 0 {
         return Ok(());
     }
+    // ticks are numbers: there is no list of them
     for tick in 0..=last_tick(legs) {
         tell_tick(rt, legs, tick)?;
     }

@@ -11,7 +11,7 @@ use bezier::reduction::Reduction;
 use distance::measure::Distance;
 use outlet::outlet::Outlet;
 use plan_text::notation::Notation;
-use plan_text::print::{LINE_ROOM, print_leg};
+use plan_text::print::{check_room, print_leg};
 use plan_text::refusal::TextRefusal;
 
 impl<P: Distance + Notation, R: Reduction<P>> Making<P, R> {
@@ -20,9 +20,7 @@ impl<P: Distance + Notation, R: Reduction<P>> Making<P, R> {
         ensures shows { LegShown P.Ordinate.kind P.Notation.at (made P.Ordinate.kind P.Distance.measure R.Reduction.rule self.old) i buffer.old result buffer.new }
         ensures same { self.new ≡ self.old }
     {
-        if buffer.len() < LINE_ROOM {
-            return Err(TextRefusal::ShortBuffer);
-        }
+        check_room(buffer)?;
         if !self.is_sealed() {
             return Ok(None);
         }
@@ -50,9 +48,7 @@ impl Session {
         ensures shows { ShowsLeg (state_of self.old.stage) i buffer.old result buffer.new }
         ensures same { self.new ≡ self.old }
     {
-        if buffer.len() < LINE_ROOM {
-            return Err(TextRefusal::ShortBuffer);
-        }
+        check_room(buffer)?;
         match &mut self.stage {
             Stage::Waiting => Ok(None),
             Stage::Flow(making) => making.leg(i, buffer),

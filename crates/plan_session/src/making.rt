@@ -24,6 +24,7 @@ pub struct Making<P, R> {
 }
 
 /// Why no turn is begun.
+// Unlike the planner's `RunError` it hands the `AllocError` on, since `Session::answer` answers it.
 #[derive(Drop, Debug)]
 pub enum BeginError {
     /// Its terms are refused.

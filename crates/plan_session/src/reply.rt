@@ -4,7 +4,7 @@ ghost use Rattle.plan_text.specs.Printing.{Prints};
 ghost use Rattle.plan_session.specs.Replies.{line_number, no_form as the_no_form, out_of_place as the_out_of_place, reply_text};
 ghost use Rattle.plan_session.specs.declared.reply.LineRefusal.TheVariants.{Call as ByCall, Text as ByText};
 
-use plan_text::print::{LINE_ROOM, print_refused, print_sealed};
+use plan_text::print::{check_room, print_refused, print_sealed};
 use plan_text::refusal::TextRefusal;
 use turn::refusal::Refusal;
 
@@ -72,9 +72,7 @@ impl Reply {
     pub(crate) fn print(self, line: usize, buffer: &mut [u8]) -> Result<usize, TextRefusal>
         ensures { Prints (reply_text line self) buffer.old result buffer.new }
     {
-        if buffer.len() < LINE_ROOM {
-            return Err(TextRefusal::ShortBuffer);
-        }
+        check_room(buffer)?;
         match self {
             Reply::Silent => Ok(0),
             Reply::Refused(refusal) => print_refused(refusal.number(), line, buffer),

@@ -7,7 +7,7 @@ ghost use Rattle.plan_session.specs.Views.{AnswersLine, new_view, view_of};
 use crate::reply::Reply;
 use crate::stage::Stage;
 use plan_text::parse::parse;
-use plan_text::print::LINE_ROOM;
+use plan_text::print::check_room;
 use plan_text::refusal::TextRefusal;
 use std::alloc::{AllocError, Global};
 use std::mem;
@@ -44,8 +44,8 @@ impl Session {
         ensures promise { IfOk result (λ r. IfOk r (λ _. (lines : List (List ℕ)) → Promise lines (view_of self.old).state → Promise (line.now ∷ lines) (view_of self.new).state)) }
         ensures failed { IfErr result (λ _. (self.new ≡ self.old) × (buffer.new ≡ buffer.old)) }
     {
-        if buffer.len() < LINE_ROOM {
-            return Ok(Err(TextRefusal::ShortBuffer));
+        if let Err(refusal) = check_room(buffer) {
+            return Ok(Err(refusal));
         }
         let number = self.heard.saturating_add(1);
         let reply = self.hear(alloc, line)?;

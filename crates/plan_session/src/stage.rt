@@ -13,6 +13,7 @@ use ordinate::flow::Flow;
 use plan_text::form::{Form, Kind, TurnForm};
 use std::alloc::{AllocError, Global};
 
+/// Three stages, each by its own name: an option of the other two would not say what is waited for.
 #[derive(Drop)]
 pub enum Stage {
     /// No turn has been accepted yet.

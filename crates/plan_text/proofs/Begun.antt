@@ -17,6 +17,10 @@ begin_item name items item s t b e =
     ∙ append_assoc (40 ∷ name) (spaced items) (spaced (item ∷ []))
     ∙ ap (λ u. (40 ∷ name) ++ u) (sym (spaced_append items (item ∷ [])))
 
+-- The same of two items, from the line's name on.
+pub begin_two : (name one two s t u : List ℕ) → s ≡ 40 ∷ name → t ≡ s ++ spaced (one ∷ []) → u ≡ t ++ spaced (two ∷ []) → Begun name (one ∷ two ∷ []) u
+begin_two name one two s t u b e f = begin_item name (one ∷ []) two t u (begin_item name [] one s t (begin name s b) e) f
+
 begun_size : (name : List ℕ) (items : List (List ℕ)) (s : List ℕ) → Begun name items s → length s ≡ 1 + length name + length (spaced items)
 begun_size name items s b = ap length b ∙ simp length-append (omega arith)
 

@@ -9,7 +9,8 @@ use Rattle.plan_text.specs.declared.token.Token.TheVariants.{Open, Close, Word, 
 use Rattle.plan_text.specs.Tokens.{Mark, opening, closing, word, number, gap, octets_of, spelled, opens, mark_of}
 use Rattle.plan_text.specs.Lexing.{IsStopped, IsMark, Ends, Steps, Misses, left}
 use Rattle.plan_text.specs.Reading.{Spells}
-use Rattle.plan_text.proofs.Taken.{same_mark, head_same, tail_same, some_signed}
+use Rattle.plan_text.proofs.Taken.{same_mark, head_same, some_signed}
+use Rattle.decimal.proofs.Signs.{tail_same}
 
 stops_spelled : (ms : List Mark) → IsStopped (spelled false ms)
 stops_spelled [] = tt

@@ -3,6 +3,7 @@ use Rattle.std.proofs.Common.{◌≡◌, ℕ, suc, ◌+◌, ◌-◌, ◌^◌, �
 use lib.Signed.{mag}
 use Rattle.std.specs.Str.Parse.{AllDigits}
 use Rattle.decimal.specs.Numbers.{text_of, HasFewDigits}
+use Rattle.decimal.proofs.Signs.{tail_same}
 use Rattle.std.proofs.lemmas.Str.Parse.{digit_from_value}
 use Rattle.std.proofs.lemmas.Fmt.{decimal_is_IsNumeral, decimal_nonempty, signed_decimal_injective}
 use Rattle.std.proofs.lemmas.List.{drop_more, drop_all, drop-drop, get_or-take, get_or-drop, length-take-le, length-drop}
@@ -34,9 +35,6 @@ not_both b p q = let z : ◌≡◌ {A = ℕ} 0 1 = cc in omega arith
 
 pub head_same : (b c : ℕ) (x y : List ℕ) → b ∷ x ≡ c ∷ y → b ≡ c
 head_same b c x y e = cc
-
-pub tail_same : (b c : ℕ) (x y : List ℕ) → b ∷ x ≡ c ∷ y → x ≡ y
-tail_same b c x y e = cc
 
 -- an octet that is not plain begins no run
 pub clash : (b : ℕ) (x w y : List ℕ) → is_plain_octet b ≡ false → 0 < length w → ArePlain w → b ∷ x ≡ w ++ y → ⊥

@@ -12,7 +12,8 @@ use leg::leg::Leg;
 /// How many octets a buffer must have. No printed line has more.
 pub const LINE_ROOM: usize = 160;
 
-fn check_room(buffer: &[u8]) -> Result<(), TextRefusal>
+/// Checks that the buffer has room for any printed line.
+pub fn check_room(buffer: &[u8]) -> Result<(), TextRefusal>
     ensures { MatchResult result (λ _. 160 ≤ length buffer.now) (λ f. (f ≡ Short) × (length buffer.now < 160)) }
 {
     if buffer.len() < LINE_ROOM {

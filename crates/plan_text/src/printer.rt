@@ -11,6 +11,7 @@ use itoa::Integer;
 use std::marker::Model;
 
 /// What was written of the line so far.
+// Octets and an end of its own, since there is no heap and the line is printed before it is copied to the buffer. An `ArrayVec` would need a second writer of numbers: `write_number` writes into a slice.
 #[derive(Drop)]
 pub(crate) struct Printer {
     octets: [u8; LINE_ROOM],

@@ -9,7 +9,7 @@ pub(crate) enum Token<'a> {
     Number(i64),
 }
 
-/// A token, and the place in the line where it begins.
+/// A token, and the place in the line where it begins: there a reader finds it again.
 #[derive(Clone, Copy)]
 pub(crate) struct Part<'a> {
     pub token: Token<'a>,

@@ -52,10 +52,7 @@ impl<P: Distance, R: Reduction<P>> Draft<P, R> {
         ensures yes { T result → Continues self.now.last point }
         ensures no { Continues self.now.last point → T result }
     {
-        match self.last {
-            Some(last) => point == last,
-            None => true,
-        }
+        self.last.is_none_or(|last| point == last)
     }
 
     /// Puts the legs of the curve over the span, where it goes on from the point that ends the last leg.
@@ -92,10 +89,12 @@ impl<P: Distance, R: Reduction<P>> Draft<P, R> {
         ensures same { HandsBack self result }
         ensures work { work.new ≡ work_left P.Ordinate.kind (answer result) (work_wanted P.Ordinate.kind P.Distance.measure R.Reduction.rule self.accuracy.depth points.now) work.old }
     {
+        // `?` would drop the draft
         let span = match self.next_span::<O>(outlet, points, ticks) {
             Ok(span) => span,
             Err(refusal) => return Err(self.refused(refusal)),
         };
+        // `?` would drop the draft
         if let Err(refusal) = self.put_span::<O>(outlet, points, span, work) {
             return Err(self.refused(refusal));
         }

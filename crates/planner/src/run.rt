@@ -74,11 +74,11 @@ impl From<AllocError> for RunError {
 
 /// Makes the calls in order, up to the first accepted seal.
 fn perform_all<P: Distance, R: Reduction<P>, O: Outlet<P>>(
-    draft: Draft<P, R>,
+    mut draft: Draft<P, R>,
     outlet: &mut O,
     calls: &[Call<'_, P>],
     room: &mut [P],
-    answers: Vec<Result<(), Refusal>>,
+    mut answers: Vec<Result<(), Refusal>>,
 ) -> Course<P, R>
     requires work { 99 ≤ length room.old }
     requires none { answers.items ≡ [] }
@@ -86,8 +86,6 @@ fn perform_all<P: Distance, R: Reduction<P>, O: Outlet<P>>(
     ensures performed { Performed (setting P.Ordinate.kind P.Distance.measure R.Reduction.rule draft) (calls_of calls.now) result.answers.items (progress draft) (O.Outlet.contents outlet.old) (turn_progress result.turn) (O.Outlet.contents outlet.new) }
     ensures turn { TurnAfter (recorded [] (calls_of calls.now) result.answers.items) result.turn }
 {
-    let mut answers = answers;
-    let mut draft = draft;
     for call in calls {
         let (turn, answer) = draft.make::<O>(outlet, call, room);
         answers.push_reserved(answer);

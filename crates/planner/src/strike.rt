@@ -31,6 +31,7 @@ fn before_span<P: Ordinate, O: Outlet<P>>(outlet: &mut O, start: u32, count: usi
     ensures end { result.end ≡ end_of (last_leg (take result.count (O.Outlet.contents outlet.old).legs)) }
     ensures all { (l : LegT P) → last_leg (take result.count (O.Outlet.contents outlet.old).legs) ≡ Just l → StartsAt start l → ⊥ }
 {
+    // an outlet is asked leg by leg: it may be a device, and is no iterator
     for i in (0..count).rev() {
         if let Some(leg) = outlet.get(i) {
             if leg.stretch.from != start {

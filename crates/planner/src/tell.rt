@@ -15,7 +15,7 @@ fn first_value<P: Distance, O: Outlet<P>>(outlet: &mut O, tick: u32) -> Option<P
     ensures same { O.Outlet.contents outlet.new ≡ O.Outlet.contents outlet.old }
     ensures value { FirstTells P.Ordinate.kind (O.Outlet.contents outlet.old).legs (pos tick) result }
 {
-    // an outlet is asked leg by leg: it is a device, and no iterator
+    // an outlet is asked leg by leg: it may be a device, and is no iterator
     for i in 0..outlet.count() {
         if let Some(leg) = outlet.get(i) {
             if let Some(point) = value_at(&leg, tick) {

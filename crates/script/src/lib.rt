@@ -1,4 +1,4 @@
-//! Scripts for the programs that the tests work: the words of a line, the outlets that they start, and what is shown of them.
+//! Scripts for the programs that the tests work: how one is read and worked by a player, the words of a line, the outlets that are started, and what is shown of them.
 #![tactic(auto)]
 
 pub mod input;

@@ -20,15 +20,6 @@ where
         .context(format_args!("'{word}' is no number that can stand here"))
 }
 
-/// The point with these coordinates.
-fn point_of<P: Ordinate>(coordinates: &[i64]) -> P {
-    let mut point = P::zero();
-    for (i, coordinate) in coordinates.iter().enumerate() {
-        point = point.with_coordinate(i, *coordinate);
-    }
-    point
-}
-
 impl<'a> Words<'a> {
     pub fn new(line: &'a str) -> Words<'a> {
         Words {
@@ -69,7 +60,8 @@ impl<'a> Words<'a> {
         }
         let mut points = Vec::new(heap);
         for point in each {
-            points.push(point_of(point))?;
+            let numbered = point.iter().enumerate();
+            points.push(numbered.fold(P::zero(), |point, (i, x)| point.with_coordinate(i, *x)))?;
         }
         Ok(points)
     }

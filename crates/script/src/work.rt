@@ -112,8 +112,5 @@ fn work_all<F: Player<Flow>, B: Player<Branches>>(
 /// Works the script on standard input, with a player for each kind, and says at which line it went wrong.
 pub fn work_script<F: Player<Flow>, B: Player<Branches>>(rt: &HostRuntime) -> anyhow::Result<()> {
     let mut input = Input::new(rt)?;
-    match work_all::<F, B>(rt, &mut input) {
-        Ok(()) => Ok(()),
-        Err(error) => Err(anyhow!("line {}: {error}", input.number())),
-    }
+    work_all::<F, B>(rt, &mut input).map_err(|error| anyhow!("line {}: {error}", input.number()))
 }

@@ -11,6 +11,7 @@ use Rattle.leg.specs.declared.leg.Stretch.{Stretch}
 use Rattle.leg.proofs.Seams.{last_stretch}
 use Rattle.outlet.specs.Outlets.{Contents}
 use Rattle.curve.specs.Cells.{Allowed, Covers, Division, begin, end, whole}
+use Rattle.curve.proofs.Divisions.{covers_le}
 use Rattle.curve.proofs.Moments.{begin<end, units}
 use Rattle.curve.specs.Legs.{leg_of}
 use Rattle.turn.specs.Calls.{History, Progress, Span, end_tick, last_leg, standing}
@@ -38,10 +39,6 @@ module _ {P : Type 0} (K : Kind P) (M : Measure) (R : Rule P) (D S L : ℕ) (ps 
   abbrev leg : Cell → Leg P
   leg c = leg_of K M R S L ps c
 
-  covers_le : (a : ℕ) (cs : List Cell) (b : ℕ) → Covers D a cs b → a ≤ b
-  covers_le a [] b v = omega arith
-  covers_le a (c ∷ cs) b v = let r : end D c ≤ b = covers_le (end D c) cs b v.1 in let p = begin<end D c in omega arith
-
   last_ends : (c : Cell) → c.depth ≤ D → c.index + 1 ≡ 2 ^ c.depth → end D c ≡ end D whole
   last_ends c h e =
       let z : D ≡ D - 0 = omega arith in
@@ -57,7 +54,7 @@ module _ {P : Type 0} (K : Kind P) (M : Measure) (R : Rule P) (D S L : ℕ) (ps 
     record {
       after = λ l.
           let e = last_ends p h l in
-          let r = covers_le (end D c) cs (end D whole) v.1 in
+          let r = covers_le D (end D c) cs (end D whole) v.1 in
           let b = begin<end D c in
           let q : begin D c ≡ end D p = v.0 in
           absurd (omega arith);

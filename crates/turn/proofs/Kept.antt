@@ -22,11 +22,12 @@ use Rattle.turn.specs.Settings.{Full, LawfulSetting, Setting}
 use Rattle.turn.specs.Whole.{Answered, LegNear, SealedFull, Whole}
 use Rattle.turn.specs.declared.refusal.Refusal.{Refusal}
 use Rattle.curve.specs.declared.refusal.CurveRefusal.TheVariants.{PointCount, PointBeyond, TooManyLegs}
+use Rattle.curve.proofs.Fitting.{each_map}
 use Rattle.turn.specs.declared.refusal.Refusal.TheVariants.{Curve, Foreign, PastEnd, Apart, Empty, Torn, NotFull, Ticks}
 use Rattle.turn.proofs.Points.{beyond_or_inside, dec_point, settled}
 use Rattle.turn.proofs.Reasons.{AllBeside, Beside, because_beside, first_beside, none_holds}
 use Rattle.turn.proofs.Seams.{run_ends, run_seamless}
-use Rattle.turn.proofs.Standing.{each_map, Own, Stand, fewest_legs_same, fewest_some, own_from, own_some, own_strung, stand_all, stand_below, stand_closes, stand_end, stand_fewest, stand_of, stand_runs, stand_some, stand_spans}
+use Rattle.turn.proofs.Standing.{Own, Stand, fewest_legs_same, fewest_some, own_from, own_some, own_strung, stand_all, stand_below, stand_closes, stand_end, stand_fewest, stand_of, stand_runs, stand_some, stand_spans}
 use Rattle.turn.proofs.Strung.{joined_append, joined_front, strung_follows}
 use Rattle.turn.proofs.Struck.{one_cut}
 

@@ -1,13 +1,8 @@
 -- Every leg of a whole turn is one that a leg may be.
-use Rattle.std.proofs.Common.{◌≡◌, ℕ, ◌+◌, ◌*◌, ◌≤◌, ◌⊎◌, List, [], ◌∷◌, length, ℤ, pos, neg_ℤ, sym, refl, subst, subst₂, inl, inr, arith}
-use Rattle.std.proofs.lemmas.Int.{ints}
-use Rattle.ordinate.specs.Kinds.{Between, InRange}
-use Rattle.distance.specs.Measures.{Reaches, point}
+use Rattle.std.proofs.Common.{◌≡◌, ℕ, ◌+◌, ◌≤◌, List, [], ◌∷◌, length, sym, subst, arith}
+use Rattle.distance.specs.Measures.{point}
 use Rattle.bezier.specs.Bernstein.{degree_of}
-use Rattle.bezier.specs.Reductions.{number}
 use Rattle.bezier.specs.Rounds.{cell_points}
-use Rattle.bezier.specs.declared.degree.Degree.{Degree}
-use Rattle.bezier.specs.declared.degree.Degree.TheVariants.{One, Two}
 use Rattle.bezier.proofs.Parts.{inside_cell, length_cell}
 use Rattle.leg.specs.Chains.{Each}
 use Rattle.leg.specs.Legs.{IsLeg}
@@ -16,6 +11,7 @@ use Rattle.leg.specs.declared.leg.Leg.{Leg}
 use Rattle.outlet.specs.Outlets.{Contents}
 use Rattle.curve.specs.Cells.{Allowed}
 use Rattle.curve.specs.Legs.{leg_of}
+use Rattle.curve.proofs.Fitting.{in_range, one_or_two, straight, wide}
 use Rattle.curve.proofs.Pieces.{each_append}
 use Rattle.turn.specs.Calls.{History, Progress, Span, end_tick, standing}
 use Rattle.turn.specs.Outcomes.{legs_for}
@@ -25,24 +21,7 @@ use Rattle.turn.specs.Whole.{Whole}
 use Rattle.turn.proofs.Kept.{Drawn, drawn, stand}
 use Rattle.turn.proofs.Standing.{Stand}
 
-farther : (c : ℕ) (z : ℤ) → Between (neg_ℤ (pos c)) (pos c) z → Between (neg_ℤ (pos (4 * c))) (pos (4 * c)) z
-farther c z h = (omega (arith, ints, h.0), omega (arith, ints, h.1))
-
-one_or_two : (m : Degree) → (number m ≡ 1) ⊎ (number m ≡ 2)
-one_or_two One = inl refl
-one_or_two Two = inr refl
-
-is_one : (m : Degree) → number m ≡ 1 → m ≡ One
-is_one One e = refl
-is_one Two e = absurd (omega arith)
-
 module _ {P : Type 0} (A : Setting P) (law : LawfulSetting A) where
-  in_range : (p : P) → Reaches A.kind (4 * A.measure.limit) p → InRange A.kind p
-  in_range p h i l = subst₂ (λ (low high : ℤ). Between low high (A.kind.coordinate p i)) (sym law.measure.least) (sym law.measure.greatest) (h i l)
-
-  near_range : (p : P) → Reaches A.kind A.measure.limit p → InRange A.kind p
-  near_range p h = in_range p (λ i l. farther A.measure.limit (A.kind.coordinate p i) (h i l))
-
   module _ (shallow : A.depth ≤ 10) (short : A.end ≤ 65536) where
     leg_is : (S : ℕ) (s : Span P) → Drawn A s → S + s.ticks ≤ A.end → (c : Cell) → Allowed A.depth (cell_passes A s.points) c
         → IsLeg A.kind (leg_of A.kind A.measure A.rule S s.ticks s.points c)
@@ -58,10 +37,10 @@ module _ {P : Type 0} (A : Setting P) (law : LawfulSetting A) where
         record {
           place = record { begins = omega arith; lasts = some; brief = brief; ends = omega arith; shallow = omega arith; inside = w.inside };
           one_or_two = one_or_two A.rule.degree;
-          straight = λ q. law.rule.straight (is_one A.rule.degree q) qs;
-          start_in = near_range (point A.kind qs 0) (inside 0 (omega arith));
-          middle_in = in_range (A.rule.middle qs) (law.rule.near qs (omega arith) (omega arith) inside);
-          end_in = near_range (point A.kind qs (degree_of A.kind qs)) (inside (degree_of A.kind qs) (omega arith));
+          straight = λ q. law.rule.straight (straight A.rule.degree q) qs;
+          start_in = wide A.kind A.measure law.measure (point A.kind qs 0) (inside 0 (omega arith));
+          middle_in = in_range A.kind A.measure law.measure (A.rule.middle qs) (law.rule.near qs (omega arith) (omega arith) inside);
+          end_in = wide A.kind A.measure law.measure (point A.kind qs (degree_of A.kind qs)) (inside (degree_of A.kind qs) (omega arith));
         }
 
     legs_are : (S : ℕ) (s : Span P) → Drawn A s → S + s.ticks ≤ A.end → (cs : List Cell) → Each (Allowed A.depth (cell_passes A s.points)) cs

@@ -9,6 +9,7 @@ use Rattle.leg.specs.declared.leg.Leg.{Leg}
 use Rattle.curve.specs.Cells.{left, right, whole}
 use Rattle.curve.specs.Fewest.{Fewest}
 use Rattle.curve.proofs.Divisions.{fewest_is_found}
+use Rattle.curve.proofs.Fitting.{each_map}
 use Rattle.curve.proofs.Pieces.{each_append, found}
 use Rattle.turn.specs.Calls.{Span, end_of, end_tick, last_leg}
 use Rattle.turn.specs.Outcomes.{legs_for}
@@ -17,10 +18,6 @@ use Rattle.turn.specs.Settings.{Setting}
 use Rattle.turn.specs.Whole.{EachSpan, SpanLegs, leg_if, legs_of, with_start}
 use Rattle.turn.proofs.Seams.{Runs, division_closes, division_runs, runs_append, tick}
 use Rattle.turn.proofs.Strung.{Strung, halving_strung, strung_arrives}
-
-pub each_map : {B : Type 0} (Q R : B → Type 0) → ((b : B) → Q b → R b) → (xs : List B) → Each Q xs → Each R xs
-each_map Q R f [] h = tt
-each_map Q R f (x ∷ xs) h = (f x h.0, each_map Q R f xs h.1)
 
 -- ---- the last of lists
 

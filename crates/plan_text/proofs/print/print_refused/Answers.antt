@@ -1,7 +1,7 @@
 use Rattle.std.proofs.Common.{◌∷◌, [], codes, arith}
 use Rattle.plan_text.specs.Printing.{natural_text, natural_field, refused_line}
 use Rattle.plan_text.proofs.Sizes.{refused_size}
-use Rattle.plan_text.proofs.Begun.{begin, begin_item, item_fits, end_fits, finish}
+use Rattle.plan_text.proofs.Begun.{begin, begin_item, begin_two, item_fits, end_fits, finish}
 use Rattle.plan_text.proofs.print.print_refused.Goals as goal
 
 pub returns-in_err-check_room-clause-fits : goal.returns-in_err-check_room-clause-fits
@@ -31,10 +31,8 @@ end-requires-clause-fits c =
     let name = codes "refused" in
     let number = natural_text c.args.number in
     let line = natural_field (codes "line") c.args.line in
-    let one = begin name c.begin-printer.result c.begin-printer.ensures in
-    let two = begin_item name [] number c.begin-printer.result c.put_numbers.new.self one c.put_numbers.ensures in
-    let three = begin_item name (number ∷ []) line c.put_numbers.new.self c.put_item.new.self two c.put_item.ensures in
-    end_fits name (number ∷ line ∷ []) c.put_item.new.self three (refused_size c.args.number c.args.line (omega arith) (omega arith))
+    let both = begin_two name number line c.begin-printer.result c.put_numbers.new.self c.put_item.new.self c.begin-printer.ensures c.put_numbers.ensures c.put_item.ensures in
+    end_fits name (number ∷ line ∷ []) c.put_item.new.self both (refused_size c.args.number c.args.line (omega arith) (omega arith))
 
 pub returns-clause-prints : goal.returns-clause-prints
 unfolding refused_line
@@ -42,8 +40,6 @@ returns-clause-prints c =
     let name = codes "refused" in
     let number = natural_text c.args.number in
     let line = natural_field (codes "line") c.args.line in
-    let one = begin name c.begin-printer.result c.begin-printer.ensures in
-    let two = begin_item name [] number c.begin-printer.result c.put_numbers.new.self one c.put_numbers.ensures in
-    let three = begin_item name (number ∷ []) line c.put_numbers.new.self c.put_item.new.self two c.put_item.ensures in
-    let done = finish name (number ∷ line ∷ []) c.put_item.new.self c.args.buffer.now c.end.new.buffer c.end.result three c.end.ensures.size c.end.ensures.written in
+    let both = begin_two name number line c.begin-printer.result c.put_numbers.new.self c.put_item.new.self c.begin-printer.ensures c.put_numbers.ensures c.put_item.ensures in
+    let done = finish name (number ∷ line ∷ []) c.put_item.new.self c.args.buffer.now c.end.new.buffer c.end.result both c.end.ensures.size c.end.ensures.written in
     (done.whole, (c.in_ok-check_room.ensures, done.written))

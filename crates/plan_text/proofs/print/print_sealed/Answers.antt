@@ -1,7 +1,7 @@
 use Rattle.std.proofs.Common.{◌∷◌, [], codes, arith}
 use Rattle.plan_text.specs.Printing.{natural_field, sealed_line}
 use Rattle.plan_text.proofs.Sizes.{sealed_size}
-use Rattle.plan_text.proofs.Begun.{begin, begin_item, item_fits, end_fits, finish}
+use Rattle.plan_text.proofs.Begun.{begin, begin_item, begin_two, item_fits, end_fits, finish}
 use Rattle.plan_text.proofs.print.print_sealed.Goals as goal
 
 pub returns-in_err-check_room-clause-fits : goal.returns-in_err-check_room-clause-fits
@@ -31,10 +31,8 @@ end-requires-clause-fits c =
     let name = codes "sealed" in
     let legs = natural_field (codes "legs") c.args.legs in
     let ticks = natural_field (codes "ticks") c.args.ticks in
-    let one = begin name c.begin-printer.result c.begin-printer.ensures in
-    let two = begin_item name [] legs c.begin-printer.result c.put_item.new.self one c.put_item.ensures in
-    let three = begin_item name (legs ∷ []) ticks c.put_item.new.self c.put_item-2.new.self two c.put_item-2.ensures in
-    end_fits name (legs ∷ ticks ∷ []) c.put_item-2.new.self three (sealed_size c.args.legs c.args.ticks (omega arith) (omega arith))
+    let both = begin_two name legs ticks c.begin-printer.result c.put_item.new.self c.put_item-2.new.self c.begin-printer.ensures c.put_item.ensures c.put_item-2.ensures in
+    end_fits name (legs ∷ ticks ∷ []) c.put_item-2.new.self both (sealed_size c.args.legs c.args.ticks (omega arith) (omega arith))
 
 pub returns-clause-prints : goal.returns-clause-prints
 unfolding sealed_line
@@ -42,8 +40,6 @@ returns-clause-prints c =
     let name = codes "sealed" in
     let legs = natural_field (codes "legs") c.args.legs in
     let ticks = natural_field (codes "ticks") c.args.ticks in
-    let one = begin name c.begin-printer.result c.begin-printer.ensures in
-    let two = begin_item name [] legs c.begin-printer.result c.put_item.new.self one c.put_item.ensures in
-    let three = begin_item name (legs ∷ []) ticks c.put_item.new.self c.put_item-2.new.self two c.put_item-2.ensures in
-    let done = finish name (legs ∷ ticks ∷ []) c.put_item-2.new.self c.args.buffer.now c.end.new.buffer c.end.result three c.end.ensures.size c.end.ensures.written in
+    let both = begin_two name legs ticks c.begin-printer.result c.put_item.new.self c.put_item-2.new.self c.begin-printer.ensures c.put_item.ensures c.put_item-2.ensures in
+    let done = finish name (legs ∷ ticks ∷ []) c.put_item-2.new.self c.args.buffer.now c.end.new.buffer c.end.result both c.end.ensures.size c.end.ensures.written in
     (done.whole, (c.in_ok-check_room.ensures, done.written))
