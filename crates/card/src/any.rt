@@ -36,6 +36,7 @@ pub fn check_any(card: &[u8]) -> Result<(), Refusal>
 }
 
 /// The legs that a card of any kind carries.
+// The switch of `check_any` once more, since it comes to another result.
 pub fn read_any(heap: Global, card: &[u8]) -> Result<AnyLegs, ReadError>
     ensures answer { AnyRefusal card.now (read_refusal result) }
     ensures legs { IfOk result (λ v. AnyCarries card.now v) }

@@ -10,6 +10,7 @@ use card::refusal::Refusal;
 use card::value::value;
 use ordinate::kind::Ordinate;
 
+// A number: what is called from C answers none of our types.
 fn answer(r: Result<(), Refusal>) -> u32
     ensures { result ≡ answered (refusal r) }
 {

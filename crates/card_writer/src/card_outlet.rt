@@ -80,6 +80,7 @@ impl<'a, P: Ordinate> CardOutlet<'a, P> {
 
 // Each method borrows the octets anew, since what is lent straight from `self` loses the facts about it.
 #[tactic(auto, using(crate::specs::Laws::Held::length_first))]
+// The clauses of the trait stand here once more, of the octets, since they say more of these.
 impl<'a, P: Ordinate> Outlet<P> for CardOutlet<'a, P> {
     ghost contents = { λ o. on_card P.kind o.octets.now };
 

@@ -1,4 +1,5 @@
 //! Curves divided into the fewest legs that stay within a tolerance.
+//! Contracts name kind, measure and rule one by one: they are what the bounds of `P` and `R` mean, which no model can use.
 #![tactic(auto)]
 
 pub mod accuracy;

@@ -25,6 +25,7 @@ pub enum CurveRefusal {
 
 impl CurveRefusal {
     /// The number by which the refusal goes.
+    // a method, and no conversion: a refusal has a number, and may name a place besides
     pub fn number(self) -> u32
         ensures { result ≡ (row self).0 }
     {

@@ -10,6 +10,7 @@ impl Stretch {
     pub fn stands(self) -> bool
         ensures { IsTrue result ↔ Stands self }
     {
+        // each limit is written where it is tested, here and by whoever else refuses for it
         if self.from > 65_535 || self.ticks < 1 || self.ticks > 4_096 {
             return false;
         }

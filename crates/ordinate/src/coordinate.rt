@@ -4,6 +4,7 @@ ghost use Rattle.ordinate.specs.Octets.{octets_of, coordinate_of};
 ghost use Rattle.ordinate.specs.Kinds.{Between, reach};
 
 /// Two's complement, the most significant octet first.
+// The library's own conversions, under names whose clauses say once what a card means by them.
 pub fn to_octets(value: i64) -> [u8; 8]
     ensures { result ≡ octets_of value }
 {

@@ -14,6 +14,7 @@ pub enum PutRefusal {
 
 impl PutRefusal {
     /// The number by which the refusal goes.
+    // a method, and no conversion: a refusal has a number, and may name a place besides
     pub fn number(self) -> u32
         ensures { result ≡ put_number self }
     {

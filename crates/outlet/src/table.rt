@@ -69,6 +69,7 @@ impl<P: Ordinate> RecordTable<P> {
     }
 }
 
+// The clauses of the trait stand here once more, of the table as it is seen, since they say more of it.
 // What it holds and its blank leg are all that is seen of a table (`held_tells` in specs/Laws/Tables.antt), so put and keep leave nothing open.
 impl<P: Ordinate> Outlet<P> for RecordTable<P> {
     ghost contents = { held };

@@ -19,6 +19,7 @@ pub enum TextRefusal {
 
 impl TextRefusal {
     /// The number by which the refusal goes.
+    // a method, and no conversion: a refusal has a number, and may name a place besides
     pub fn number(self) -> u32
         ensures { result ≡ number_of self }
     {

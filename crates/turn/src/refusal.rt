@@ -35,6 +35,7 @@ pub enum Refusal {
 
 impl Refusal {
     /// The number by which the refusal goes.
+    // a method, and no conversion: a refusal has a number, and may name a place besides
     pub fn number(self) -> u32
         ensures { result ≡ (row self).0 }
     {
