@@ -164,7 +164,7 @@ def drawn_text(rng: Random, name: str, kind: Kind, reduction: Reduction, slips: 
     return Text(name, typed(*typist.lines))
 
 
-DRAWN_TEXTS = 30
+DRAWN_TEXTS = 80
 
 
 def drawn_texts(rng: Random) -> Iterator[Text]:
@@ -189,13 +189,28 @@ def sealed_text(rng: Random, kind: Kind, reduction: Reduction) -> Text:
     return Text(f"sealed {kind.name} turn", typed(turn, *spans, SEAL), ())
 
 
-SEALED_TEXTS = 15
+SEALED_TEXTS = 60
 
 
 def sealed_texts(rng: Random) -> Iterator[Text]:
     for kind, reduction in product(KINDS, REDUCTIONS):
         for _ in range(SEALED_TEXTS):
             yield sealed_text(rng, kind, reduction)
+
+
+# --- Texts with one octet damaged
+
+TOUCHED_TEXTS = 500
+TOUCHES = b"\x00\t\n\r ()-019ax\x7f\x80\xff"
+
+
+def touched_texts(rng: Random, texts: Sequence[Text]) -> Iterator[Text]:
+    """Some of these texts with one octet replaced, left out or doubled."""
+    for text in rng.choices(texts, k=TOUCHED_TEXTS):
+        i = rng.randrange(len(text.octets))
+        before, octet, after = text.octets[:i], text.octets[i : i + 1], text.octets[i + 1 :]
+        instead = rng.choice((bytes([rng.choice(TOUCHES)]), b"", octet * 2))
+        yield Text(f"{text.name}, octet {i} made {instead!r}", before + instead + after)
 
 
 # --- Damaged lines, many to a text
@@ -451,10 +466,13 @@ def line_end_texts() -> Iterator[Text]:
     yield Text("a mark before the text", marked, refused_from(1, [41, 42, 42, 42]))
 
 
+NOISE_TEXTS = 150
+
+
 def noise_texts(rng: Random) -> Iterator[Text]:
     """Random octets, and lines and pieces of forms in random order."""
     pieces = [TURN, HELD, STRIKE, SEAL, "(at 7)", "(", ")", " ", "7", "\n", "\n", "(ticks 8)"]
-    for i in range(12):
+    for i in range(NOISE_TEXTS):
         yield Text(f"noise {i}", rng.randbytes(rng.choice((1, 20, 300, 5_000))))
         yield Text(f"pieces {i}", "".join(rng.choices(pieces, k=80)).encode("ascii"))
         yield Text(f"lines {i}", typed(*rng.choices((TURN, HELD, STRIKE, SEAL, ""), k=60)))
@@ -642,10 +660,12 @@ def doc_texts() -> Iterator[Text]:
 
 def all_texts(seed: int) -> list[Text]:
     rng = Random(seed)
+    sealed = list(sealed_texts(rng))
     return [
         *doc_texts(),
         *drawn_texts(rng),
-        *sealed_texts(rng),
+        *sealed,
+        *touched_texts(rng, sealed),
         *damage_texts(rng),
         *number_texts(),
         *spacing_texts(),

@@ -7,12 +7,19 @@ use crate::header::HEADER;
 use crate::record::length_of_record;
 use ordinate::kind::Ordinate;
 
+/// How many octets a card of so many records has, with none behind them; the largest number where it would have more.
+pub fn length_of_card<P: Ordinate>(records: usize) -> usize
+    ensures { result ≡ min (8 + record_length P.kind * records) 18446744073709551615 }
+{
+    let octets = length_of_record::<P>().saturating_mul(records);
+    octets.saturating_add(HEADER)
+}
+
 /// Where record `i` begins, and the one before it ends; the end of the card, where that is past it.
 pub fn place_of<P: Ordinate>(card: &[u8], i: usize) -> usize
     ensures { result ≡ min (8 + record_length P.kind * i) (length card.now) }
 {
-    let before = length_of_record::<P>().saturating_mul(i);
-    before.saturating_add(HEADER).min(card.len())
+    length_of_card::<P>(i).min(card.len())
 }
 
 /// The octets of record `i`, as many of them as the card has.

@@ -2,3 +2,9 @@ pub mod Typed
 pub mod Called
 pub mod Shown
 pub mod Promised
+pub mod Once
+pub mod Decided
+pub mod Told
+pub mod Stages
+pub mod CardsMade
+pub mod Texted

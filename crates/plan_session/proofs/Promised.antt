@@ -1,5 +1,5 @@
 -- Every line keeps the promise.
-use Rattle.std.proofs.Common.{◌≡◌, ◌⊎◌, inl, inr, ℕ, false, true, List, [], ◌∷◌, Some, None, Option, Ok, Err, Result, IfOk, sym, refl, ap, subst, ◌∙◌}
+use Rattle.std.proofs.Common.{◌≡◌, ◌⊎◌, inl, inr, ℕ, false, true, List, [], ◌∷◌, Some, None, Option, sym, refl, ap, subst, ◌∙◌}
 use Rattle.ordinate.specs.Kinds.{Kind, Lawful}
 use Rattle.ordinate.specs.Flows.{flow}
 use Rattle.ordinate.specs.Boxes.{box}
@@ -67,8 +67,8 @@ module _ {P : Type 0} (at : P → At) (wrap : Made P → State) where
     answers m m' f r law s (inr a) k = in_place m m' f r law a.0 s a.1 k
 
     -- The line begins the turn.
-    begins : (A : Setting P) (t : TurnForm) → LawfulSetting A → wrap (fresh A) ≡ begun_by t.kind t → Says line (Some (turn_form t)) → NoTurn lines → KeepsPromise at wrap (line ∷ lines) (fresh A)
-    begins A t law e s n = ([], inl (n, record { form = t; says = s; begun = e; none = refl }), at_first A law _ refl)
+    begins : (A : Setting P) (t : TurnForm) → LawfulSetting A → wrap (fresh A) ≡ begun_by t.kind t → Says line (Some (turn_form t)) → Judged (measure_of t.kind) t None → NoTurn lines → KeepsPromise at wrap (line ∷ lines) (fresh A)
+    begins A t law e s a n = ([], inl (n, record { form = t; says = s; agreed = a; begun = e; none = refl }), at_first A law _ refl)
 
 -- ---- before the turn
 
@@ -77,7 +77,7 @@ module _ {P : Type 0} (K : Kind P) (M : Measure) (lawful : Lawful K) (measured :
   lawful_rule Chord = chord_lawful K M
   lawful_rule Matching = matching_lawful K M lawful
 
-  lawful_setting : (g : Legs) (terms : Terms) → LawfulSetting (agreed K M (rule_of K g) terms)
+  pub lawful_setting : (g : Legs) (terms : Terms) → LawfulSetting (agreed K M (rule_of K g) terms)
   lawful_setting g terms = record { kind = lawful; measure = measured; rule = lawful_rule g }
 
   lawful_any : (m : AnyMaking P) → LawfulSetting (any_made K M m).setting
@@ -85,9 +85,9 @@ module _ {P : Type 0} (K : Kind P) (M : Measure) (lawful : Lawful K) (measured :
   lawful_any (Any.Matching m) = lawful_setting Matching m.terms
 
 module _ (line : List ℕ) (lines : List (List ℕ)) where
-  begun_promise : (k : TypedKind) (t : TurnForm) → t.kind ≡ k → Says line (Some (turn_form t)) → NoTurn lines → Promise (line ∷ lines) (begun_by k t)
-  begun_promise Kinds.Flow t e s n = begins flow_at flow_turn line lines _ t (lawful_setting flow flow_measure flow_lawful flow_measured t.legs (terms_of t)) (ap (λ (k : TypedKind). begun_by k t) (sym e)) s n
-  begun_promise Kinds.Box t e s n = begins box_at box_turn line lines _ t (lawful_setting box box_measure box_lawful box_measured t.legs (terms_of t)) (ap (λ (k : TypedKind). begun_by k t) (sym e)) s n
+  begun_promise : (k : TypedKind) (t : TurnForm) → t.kind ≡ k → Says line (Some (turn_form t)) → Judged (measure_of t.kind) t None → NoTurn lines → Promise (line ∷ lines) (begun_by k t)
+  begun_promise Kinds.Flow t e s a n = begins flow_at flow_turn line lines _ t (lawful_setting flow flow_measure flow_lawful flow_measured t.legs (terms_of t)) (ap (λ (k : TypedKind). begun_by k t) (sym e)) s a n
+  begun_promise Kinds.Box t e s a n = begins box_at box_turn line lines _ t (lawful_setting box box_measure box_lawful box_measured t.legs (terms_of t)) (ap (λ (k : TypedKind). begun_by k t) (sym e)) s a n
 
   IsTurn : PlanForm → Type 0
   IsTurn (turn_form t) = Unit {0}
@@ -101,7 +101,7 @@ module _ (line : List ℕ) (lines : List (List ℕ)) where
       subst (Promise (line ∷ lines)) (sym e) (k, λ t st. absurd (n (subst IsTurn (same line f (turn_form t) s st) tt)))
 
   begins_for : (s' : State) (t : TurnForm) (r : Reply) (f : Option Refusal) → Says line (Some (turn_form t)) → Judged (measure_of t.kind) t f → BeginsFor f t r s' → NoTurn lines → Promise (line ∷ lines) s'
-  begins_for s' t r None s h b n = subst (Promise (line ∷ lines)) (sym b.1) (begun_promise t.kind t refl s n)
+  begins_for s' t r None s h b n = subst (Promise (line ∷ lines)) (sym b.1) (begun_promise t.kind t refl s h n)
   begins_for s' t r (Some f) s h b n =
       subst (Promise (line ∷ lines)) (sym b.1)
       (n, λ u su. (f, subst IsRefused (sym (same line (turn_form t) (turn_form u) s su)) h))
@@ -145,7 +145,3 @@ module _ (line : List ℕ) (lines : List (List ℕ)) where
 
   pub stage_hears : (t : Stage) (s' : State) (o : Option PlanForm) (r : Reply) → Says line o → Hears (state_of t) o r s' → Promise lines (state_of t) → Promise (line ∷ lines) s'
   stage_hears t s' o r says a k = hears (state_of t) s' o r (lawful_stage t) says a k
-
-pub for_ok : {A E : Type 0} {Q : Type 0} (r : Result A E) → Q → IfOk r (λ x. Q)
-for_ok (Ok a) q = q
-for_ok (Err e) q = tt

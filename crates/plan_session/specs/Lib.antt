@@ -5,3 +5,6 @@ pub mod Sessions
 pub mod Views
 pub mod Listing
 pub mod Promises
+pub mod Cards
+pub mod Texts
+pub mod Claims

@@ -1,5 +1,5 @@
 -- Which leg a session prints.
-use Rattle.std.specs.Prelude.{◌≡◌, ℕ, ◌≤◌, Bool, false, List, length, Some, None, Option, Ok, Err, Result}
+use Rattle.std.specs.Prelude.{◌≡◌, ℕ, ◌≤◌, zero, ◌⊎◌, Bool, false, List, length, Some, None, Option, Ok, Err, Result}
 use Rattle.ordinate.specs.Flows.{flow}
 use Rattle.ordinate.specs.Boxes.{box}
 use Rattle.plan_text.specs.Printing.{RefusesShort}
@@ -23,3 +23,13 @@ abbrev pub sealed_state : State → Bool
 sealed_state waiting = false
 sealed_state (flow_turn m) = m.sealed
 sealed_state (box_turn m) = m.sealed
+
+abbrev pub legs_in : State → ℕ
+legs_in waiting = zero
+legs_in (flow_turn m) = length m.contents.legs
+legs_in (box_turn m) = length m.contents.legs
+
+-- Where the promise holds, nothing is printed only where there is no such leg.
+abbrev pub NoSuchLeg : State → ℕ → Option ℕ → Type 0
+NoSuchLeg s i (Some n) = Unit {0}
+NoSuchLeg s i None = (sealed_state s ≡ false) ⊎ (legs_in s ≤ i)

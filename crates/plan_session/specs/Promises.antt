@@ -1,5 +1,5 @@
 -- The promise, over the lines that a session has heard. The newest line stands first.
-use Rattle.std.specs.Prelude.{◌≡◌, ◌⊎◌, ℕ, false, true, List, [], ◌∷◌, map, Some}
+use Rattle.std.specs.Prelude.{◌≡◌, ◌⊎◌, ℕ, false, true, List, [], ◌∷◌, map, Some, None}
 use Rattle.turn.specs.Calls.{Answer, Call, lay, strike, seal, History}
 use Rattle.turn.specs.Whole.{Whole}
 use Rattle.turn.specs.declared.refusal.Refusal.{Refusal}
@@ -30,6 +30,7 @@ module _ {P : Type 0} (at : P → At) (wrap : Made P → State) where
   pub record BeginsTurn (line : List ℕ) (m : Made P) (h : History P) : Type 0 where
     pub form : TurnForm
     pub says : Says line (Some (turn_form form))
+    pub agreed : Judged (measure_of form.kind) form None
     pub begun : wrap m ≡ begun_by form.kind form
     pub none : h ≡ []
 

@@ -1,5 +1,5 @@
 -- What is printed for a line.
-use Rattle.std.specs.Prelude.{ℕ, List, []}
+use Rattle.std.specs.Prelude.{ℕ, Bool, true, false, List, []}
 use Rattle.turn.specs.Refusals.{row}
 use Rattle.plan_text.specs.Printing.{refused_line, sealed_line}
 use Rattle.plan_text.specs.Refusals.{number_of}
@@ -25,3 +25,8 @@ no_form = Refused (Text NoForm)
 
 abbrev pub out_of_place : Reply
 out_of_place = Refused (Text OutOfPlace)
+
+abbrev pub is_refusal : Reply → Bool
+is_refusal Silent = false
+is_refusal (Refused f) = true
+is_refusal (Sealed legs ticks) = false

@@ -1,7 +1,8 @@
 //! The legs of a session's sealed turn, printed one by one.
-ghost use Rattle.std.specs.Prelude.{◌≡◌};
+ghost use Rattle.std.specs.Prelude.{◌≡◌, ℕ, List, IfOk};
 ghost use Rattle.plan_session.specs.Makings.{LegShown, made};
-ghost use Rattle.plan_session.specs.Listing.{ShowsLeg, sealed_state};
+ghost use Rattle.plan_session.specs.Listing.{NoSuchLeg, ShowsLeg, sealed_state};
+ghost use Rattle.plan_session.specs.Promises.{Promise};
 ghost use Rattle.plan_session.specs.Sessions.{state_of};
 
 use crate::making::Making;
@@ -46,6 +47,7 @@ impl Session {
     /// Prints leg `i` of the sealed turn, from 0, and answers how many octets that takes; nothing where the turn is not sealed, or has no such leg. A buffer of fewer than 160 octets is refused before anything else.
     pub fn leg(&mut self, i: usize, buffer: &mut [u8]) -> Result<Option<usize>, TextRefusal>
         ensures shows { ShowsLeg (state_of self.old.stage) i buffer.old result buffer.new }
+        ensures whole { IfOk result (λ printed. (lines : List (List ℕ)) → Promise lines (state_of self.old.stage) → NoSuchLeg (state_of self.old.stage) i printed) }
         ensures same { self.new ≡ self.old }
     {
         check_room(buffer)?;

@@ -1,7 +1,7 @@
 //! What a line is answered.
 ghost use Rattle.std.specs.Prelude.{◌≡◌};
 ghost use Rattle.plan_text.specs.Printing.{Prints};
-ghost use Rattle.plan_session.specs.Replies.{line_number, no_form as the_no_form, out_of_place as the_out_of_place, reply_text};
+ghost use Rattle.plan_session.specs.Replies.{is_refusal as refuses, line_number, no_form as the_no_form, out_of_place as the_out_of_place, reply_text};
 ghost use Rattle.plan_session.specs.declared.reply.LineRefusal.TheVariants.{Call as ByCall, Text as ByText};
 
 use plan_text::print::{check_room, print_refused, print_sealed};
@@ -66,6 +66,12 @@ impl Reply {
         ensures { result ≡ the_out_of_place }
     {
         Reply::Refused(TextRefusal::OutOfPlace.into())
+    }
+
+    pub(crate) fn is_refusal(self) -> bool
+        ensures { result ≡ refuses self }
+    {
+        matches!(self, Reply::Refused(_))
     }
 
     /// Prints the answer to the line of this number, and answers how many octets that takes.

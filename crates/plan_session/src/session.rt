@@ -2,7 +2,7 @@
 ghost use Rattle.std.specs.Prelude.{◌≡◌, ℕ, List, [], ◌∷◌, IfOk, IfErr};
 ghost use Rattle.plan_session.specs.Sessions.{SaysAndHears, state_of};
 ghost use Rattle.plan_session.specs.Promises.{Promise};
-ghost use Rattle.plan_session.specs.Views.{AnswersLine, new_view, view_of};
+ghost use Rattle.plan_session.specs.Views.{AnswersLine, Heard, new_view, next_number, view_of};
 
 use crate::reply::Reply;
 use crate::stage::Stage;
@@ -12,11 +12,12 @@ use plan_text::refusal::TextRefusal;
 use std::alloc::{AllocError, Global};
 use std::mem;
 
-/// The turn that is typed, with its legs, and how many lines were heard.
+/// The turn that is typed, with its legs, how many lines were heard, and whether one of them was refused.
 #[derive(Drop)]
 pub struct Session {
     pub(crate) stage: Stage,
     pub(crate) heard: usize,
+    pub(crate) refused: bool,
 }
 
 impl Session {
@@ -28,6 +29,7 @@ impl Session {
         Session {
             stage: Stage::Waiting,
             heard: 0,
+            refused: false,
         }
     }
 
@@ -47,16 +49,27 @@ impl Session {
         if let Err(refusal) = check_room(buffer) {
             return Ok(Err(refusal));
         }
+        let (number, reply) = self.next(alloc, line)?;
+        Ok(reply.print(number, buffer))
+    }
+
+    /// Hears the next line, and answers its number and the reply to it. Where memory is wanting the line is not heard.
+    pub(crate) fn next(&mut self, alloc: Global, line: &[u8]) -> Result<(usize, Reply), AllocError>
+        ensures heard { IfOk result (λ r. (r.0 ≡ next_number self.old.heard) × Heard (view_of self.old) line.now r.1 (view_of self.new)) }
+        ensures promise { IfOk result (λ r. (lines : List (List ℕ)) → Promise lines (view_of self.old).state → Promise (line.now ∷ lines) (view_of self.new).state) }
+        ensures failed { IfErr result (λ _. self.new ≡ self.old) }
+    {
         let number = self.heard.saturating_add(1);
         let reply = self.hear(alloc, line)?;
         self.heard = number;
-        Ok(reply.print(number, buffer))
+        self.refused = self.refused || reply.is_refusal();
+        Ok((number, reply))
     }
 
     /// What the line is answered. Where memory is wanting nothing changes.
     fn hear(&mut self, alloc: Global, line: &[u8]) -> Result<Reply, AllocError>
         ensures hears { IfOk result (λ r. SaysAndHears (state_of self.old.stage) line.now r (state_of self.new.stage)) }
-        ensures same { self.new.heard ≡ self.old.heard }
+        ensures same { (self.new.heard ≡ self.old.heard) × (self.new.refused ≡ self.old.refused) }
         ensures failed { IfErr result (λ _. self.new ≡ self.old) }
     {
         let Some(form) = parse(alloc, line)? else {
