@@ -1,5 +1,5 @@
 //! The parts of a form, each read from a place in its line.
-ghost use Rattle.std.specs.Prelude.{[], ◌∷◌, MatchOption, codes};
+ghost use Rattle.std.specs.Prelude.{[], ◌∷◌, MatchOption};
 ghost use Rattle.decimal.specs.Numbers.{HasFewDigits};
 ghost use Rattle.plan_text.specs.Tokens.{opening, word as word_mark};
 ghost use Rattle.plan_text.specs.Lexing.{IsWord};
@@ -12,6 +12,7 @@ use crate::token::Token;
 use crate::word::{Word, read_word};
 
 /// The lexer behind a bracket and the name of a list.
+#[inline(always)]
 pub(crate) fn list<'a>(lexer: Lexer<'a>, name: &[u8]) -> Option<Lexer<'a>>
     ensures { IsWord name.now → Passes (opening ∷ word_mark name.now ∷ []) lexer.entry result }
 {

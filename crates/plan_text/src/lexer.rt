@@ -44,6 +44,7 @@ fn run_end(line: &[u8], place: usize) -> usize
 }
 
 /// The token that begins at `place`, and where it ends.
+#[inline(always)]
 fn token_at<'a>(line: &'a [u8], place: usize) -> Option<(Token<'a>, usize)>
     ensures { MatchOption result
         (BeginsWithNone (drop place line.now))
@@ -70,6 +71,7 @@ fn token_at<'a>(line: &'a [u8], place: usize) -> Option<(Token<'a>, usize)>
 }
 
 /// Where the next token has to begin: behind one space, but at once where it is the first of its list or closes it.
+#[inline(always)]
 fn token_start(line: &[u8], place: usize, first: bool) -> Option<usize>
     ensures { MatchOption result
         (TakesNone first (drop place line.now))
@@ -116,6 +118,8 @@ impl<'a> Lexer<'a> {
     }
 
     /// The next token, and the lexer behind it.
+    // Taken into its callers, as all that hand a lexer on: by way of memory that takes longer than reading the token.
+    #[inline(always)]
     pub(crate) fn next(self) -> Option<(Part<'a>, Lexer<'a>)>
         ensures { MatchOption result
             (TakesNone self.entry.first (left self.entry))
@@ -133,6 +137,7 @@ impl<'a> Lexer<'a> {
     }
 
     /// The lexer behind the token, if that is the next.
+    #[inline(always)]
     pub(crate) fn pass(self, token: Token<'_>) -> Option<Lexer<'a>>
         ensures { MatchOption result (Misses self.entry (mark_of token.entry)) (λ rest. Steps self.entry (mark_of token.entry) rest) }
     {
@@ -141,6 +146,7 @@ impl<'a> Lexer<'a> {
     }
 
     /// The word that is next. (A number is of another type, so one function for both would be given how to pick it.)
+    #[inline(always)]
     pub(crate) fn word(self) -> Option<(&'a [u8], Lexer<'a>)>
         ensures { MatchOption result
             ((w : List ℕ) → Misses self.entry (word_mark w))
@@ -153,6 +159,7 @@ impl<'a> Lexer<'a> {
         }
     }
 
+    #[inline(always)]
     pub(crate) fn number(self) -> Option<(i64, Lexer<'a>)>
         ensures { MatchOption result
             ((z : ℤ) → Misses self.entry (number_mark z))
