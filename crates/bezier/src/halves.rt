@@ -1,5 +1,5 @@
 //! The halves of a row of points, by rounds of halving.
-ghost use Rattle.std.specs.Prelude.{◌≡◌, ℕ, suc, ◌+◌, ◌*◌, ◌<◌, ◌≤◌, length, take, drop, slice_index_or};
+ghost use Rattle.std.specs.Prelude.{◌≡◌, ℕ, ◌+◌, ◌*◌, ◌<◌, ◌≤◌, length, take, drop, slice_index_or};
 ghost use Rattle.distance.specs.Measures.{halfway};
 ghost use Rattle.bezier.specs.Rounds.{left_half, right_half};
 

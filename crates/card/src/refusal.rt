@@ -1,6 +1,6 @@
 //! Why a card is not read, or a value not told.
-ghost use Rattle.std.specs.Prelude.{◌≡◌};
-ghost use Rattle.card.specs.Refusals.{row};
+ghost use Rattle.std.specs.Prelude.{◌≡◌, Some as Just};
+ghost use Rattle.card.specs.Refusals.{printed, row, words as the_words};
 ghost use Rattle.card.specs.declared.refusal.ReadError.TheVariants.{Refused, NoMemory};
 
 use std::alloc::AllocError;
@@ -78,7 +78,9 @@ impl Refusal {
         }
     }
 
-    fn words(self) -> &'static str {
+    fn words(self) -> &'static str
+        ensures { result.now ≡ the_words self }
+    {
         match self {
             Refusal::PastLastLeg => "the tick is past the last leg, or the card has no leg",
             Refusal::ShortResult => "the result has fewer than eight octets",
@@ -94,6 +96,8 @@ impl Refusal {
 
 /// As in `refused 24 at record 3: a field that no leg has, or a spare octet that is not zero`.
 impl fmt::Display for Refusal {
+    ghost output = { λ f. Just (printed f) };
+
     fn fmt<W: fmt::Write>(&self, f: &mut fmt::Formatter<W>) -> fmt::Result {
         let number = self.number();
         let words = self.words();

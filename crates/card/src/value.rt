@@ -1,5 +1,5 @@
 //! What a flow card tells at a tick.
-ghost use Rattle.std.specs.Prelude.{◌≡◌, List, IfOk, Some as Just};
+ghost use Rattle.std.specs.Prelude.{List, IfOk, Some as Just};
 ghost use Rattle.ordinate.specs.Flows.{flow};
 ghost use Rattle.ordinate.specs.declared.flow.Flow.{Flow as FlowT};
 ghost use Rattle.leg.specs.Values.{FirstTells};
@@ -10,7 +10,6 @@ ghost use Rattle.card.specs.Answers.{value_reasons};
 
 use crate::refusal::Refusal;
 use crate::walk::fold_card;
-use leg::leg::Leg;
 use ordinate::flow::Flow;
 
 /// The exact value of the first leg that covers the tick, rounded down.

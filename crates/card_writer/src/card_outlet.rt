@@ -1,5 +1,5 @@
 //! The card as an outlet: octets that legs are put on.
-ghost use Rattle.std.specs.Prelude.{◌≡◌, ◌+◌, ◌-◌, ◌*◌, ◌<◌, ◌≤◌, [], length, MatchOption, MatchResult, slice_index_or};
+ghost use Rattle.std.specs.Prelude.{◌≡◌, ◌+◌, ◌*◌, ◌<◌, ◌≤◌, [], length, MatchOption, MatchResult, slice_index_or};
 ghost use Rattle.outlet.specs.Outlets.{Put, kept, room};
 ghost use Rattle.card.specs.Records.{record_length};
 ghost use Rattle.card_writer.specs.Outlet.{on_card, Carded, started, with_record, kept_octets, without_records};

@@ -1,5 +1,5 @@
 -- Why a curve is refused.
-use Rattle.std.specs.Prelude.{◌≡◌, ℕ, ◌+◌, ◌*◌, ◌<◌, ◌≤◌, ◌⊎◌, List, [], ◌∷◌, ◌++◌, map, length, drop, replicate, ℤ, pos, ◌<ℤ◌, Some, None, Ok, Err, Option, Result}
+use Rattle.std.specs.Prelude.{◌≡◌, ℕ, ◌+◌, ◌*◌, ◌<◌, ◌≤◌, ◌⊎◌, List, [], ◌∷◌, ◌++◌, map, length, drop, replicate, codes, decimal, ℤ, pos, ◌<ℤ◌, Some, None, Ok, Err, Option, Result}
 use Rattle.ordinate.specs.Kinds.{Kind}
 use Rattle.distance.specs.Measures.{Beyond, Inside, Measure, blank}
 use Rattle.bezier.specs.Reductions.{Rule}
@@ -21,6 +21,20 @@ row (PointBeyond j) = (6, Some j)
 row ShortWork = (10, None)
 row TooBent = (11, None)
 row TooManyLegs = (12, None)
+
+-- In words, why the curve is refused.
+abbrev pub words : CurveRefusal → List ℕ
+words Tolerance = codes "the tolerance is not from 1 to the limit"
+words Depth = codes "the depth is not from 0 to 10"
+words PointCount = codes "too few points for the reduction, or more than nine"
+words (PointBeyond j) = codes "point " ++ (decimal j ++ codes " lies beyond the limit")
+words ShortWork = codes "too few work points"
+words TooBent = codes "the curve is too bent"
+words TooManyLegs = codes "more legs than the outlet has room for"
+
+-- How a refusal is printed: with its number and the words.
+abbrev pub printed : CurveRefusal → List ℕ
+printed f = codes "refused " ++ (decimal (row f).0 ++ (codes ": " ++ words f))
 
 -- ---- the reasons
 

@@ -1,5 +1,5 @@
 //! Which points a curve may be drawn by.
-ghost use Rattle.std.specs.Prelude.{◌≡◌, ◌+◌, ◌*◌, ◌≤◌, length, IfOk, OnOk};
+ghost use Rattle.std.specs.Prelude.{◌≡◌, ◌≤◌, IfOk, OnOk};
 ghost use Rattle.leg.specs.Reasons.{First, refusal as refusal_of};
 ghost use Rattle.curve.specs.Refusals.{Drawable, early_reasons, point_reasons, work_wanted};
 

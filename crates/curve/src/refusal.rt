@@ -1,6 +1,6 @@
 //! Why a curve is refused.
-ghost use Rattle.std.specs.Prelude.{◌≡◌};
-ghost use Rattle.curve.specs.Refusals.{row};
+ghost use Rattle.std.specs.Prelude.{◌≡◌, Some as Just};
+ghost use Rattle.curve.specs.Refusals.{printed, row};
 
 use std::fmt;
 
@@ -53,6 +53,8 @@ impl CurveRefusal {
 
 /// As in `refused 6: point 3 lies beyond the limit`.
 impl fmt::Display for CurveRefusal {
+    ghost output = { λ f. Just (printed f) };
+
     fn fmt<W: fmt::Write>(&self, f: &mut fmt::Formatter<W>) -> fmt::Result {
         let number = self.number();
         match self {

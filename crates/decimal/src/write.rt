@@ -1,5 +1,4 @@
 //! Numbers written as their text.
-ghost use Rattle.std.specs.Prelude.{◌≡◌};
 ghost use Rattle.decimal.specs.Places.{Written};
 
 use itoa::{Buffer, Integer};

@@ -1,6 +1,5 @@
 //! What a kind of ordinate offers beyond its points: a distance.
 ghost use Rattle.std.specs.Prelude.{◌≡◌, pos};
-ghost use Rattle.ordinate.specs.Kinds.{Kind};
 ghost use Rattle.distance.specs.Measures.{Measure, LawfulMeasure};
 
 use ordinate::kind::Ordinate;

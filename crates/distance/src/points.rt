@@ -1,5 +1,5 @@
 //! Points of any measured kind: the halving of two, and which may be drawn.
-ghost use Rattle.std.specs.Prelude.{◌≡◌, ℕ, ◌<◌, ◌↔◌, IsTrue, length, MatchOption};
+ghost use Rattle.std.specs.Prelude.{◌≡◌, ◌↔◌, IsTrue, MatchOption};
 ghost use Rattle.distance.specs.Measures.{Beyond, Inside, Reaches, halfway};
 
 use crate::coordinate::{half, is_bounded};

@@ -1,5 +1,5 @@
 -- Reasons one after another.
-use Rattle.std.proofs.Common.{◌≡◌, ℕ, List, [], ◌∷◌, ◌++◌, Some, None, Option, sym, refl, ap, ◌∙◌, inl, inr, arith}
+use Rattle.std.proofs.Common.{◌≡◌, ℕ, List, [], ◌∷◌, ◌++◌, Some, None, Option, sym, ap, ◌∙◌, inl, inr, arith}
 use Rattle.leg.specs.Reasons.{Reason, because, First}
 
 module _ {E : Type 0} where

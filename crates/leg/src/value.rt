@@ -1,5 +1,5 @@
 //! The exact value of a flow leg at a tick, rounded down.
-ghost use Rattle.std.specs.Prelude.{◌≡◌, ℕ, ◌-◌, ◌*◌, ◌≤◌, ℤ, pos, ◌*ℤ◌, neg_ℤ, MatchOption};
+ghost use Rattle.std.specs.Prelude.{◌≡◌, ◌-◌, ◌*◌, ◌≤◌, ℤ, pos, ◌*ℤ◌, neg_ℤ, MatchOption};
 ghost use Rattle.ordinate.specs.Kinds.{Between};
 ghost use Rattle.ordinate.specs.Flows.{flow};
 ghost use Rattle.ordinate.specs.declared.flow.Flow.{Flow as FlowT};

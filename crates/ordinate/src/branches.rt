@@ -1,6 +1,7 @@
 //! The kind box: a division box, which parts the canal into two branches.
+ghost use Rattle.std.specs.Prelude.{Some};
 ghost use Rattle.std.proofs.Common.{rules};
-ghost use Rattle.ordinate.specs.Boxes.{box as the_box};
+ghost use Rattle.ordinate.specs.Boxes.{box as the_box, box_text};
 ghost use Rattle.ordinate.specs.Laws.Kinds.{box_lawful};
 
 use crate::coordinate::is_in_reach;
@@ -68,6 +69,8 @@ impl Ordinate for Branches {
 
 /// As in `(3, -5)`.
 impl fmt::Display for Branches {
+    ghost output = { λ p. Some (box_text p) };
+
     fn fmt<W: fmt::Write>(&self, f: &mut fmt::Formatter<W>) -> fmt::Result {
         let left = self.left;
         let right = self.right;

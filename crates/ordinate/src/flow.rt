@@ -1,6 +1,7 @@
 //! The kind flow: what passes a single gate.
+ghost use Rattle.std.specs.Prelude.{Some};
 ghost use Rattle.std.proofs.Common.{rules};
-ghost use Rattle.ordinate.specs.Flows.{flow as the_flow};
+ghost use Rattle.ordinate.specs.Flows.{flow as the_flow, flow_text};
 ghost use Rattle.ordinate.specs.Laws.Kinds.{flow_lawful};
 
 use crate::coordinate::is_in_reach;
@@ -53,6 +54,8 @@ impl Ordinate for Flow {
 
 /// As in `-5`.
 impl fmt::Display for Flow {
+    ghost output = { λ p. Some (flow_text p) };
+
     fn fmt<W: fmt::Write>(&self, f: &mut fmt::Formatter<W>) -> fmt::Result {
         let value = self.value;
         write!(f, "{value}")

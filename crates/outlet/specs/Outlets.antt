@@ -1,5 +1,5 @@
 -- What an outlet holds, and what putting and keeping do to it.
-use Rattle.std.specs.Prelude.{◌≡◌, ℕ, ◌+◌, ◌-◌, ◌≤◌, List, [], ◌∷◌, ◌++◌, length, take, drop, replicate, Ok, Err, Result}
+use Rattle.std.specs.Prelude.{◌≡◌, ℕ, ◌+◌, ◌-◌, ◌≤◌, List, [], ◌∷◌, ◌++◌, length, take, drop, replicate, Ok, Err, Result, codes, decimal}
 use Rattle.ordinate.specs.Kinds.{Kind, blank}
 use Rattle.leg.specs.Legs.{IsLeg}
 use Rattle.leg.specs.declared.leg.Leg.{Leg}
@@ -10,6 +10,11 @@ use Rattle.outlet.specs.declared.put_refusal.PutRefusal.TheVariants.{NoLeg, Full
 abbrev pub put_number : PutRefusal → ℕ
 put_number NoLeg = 24
 put_number Full = 31
+
+-- How they are printed.
+abbrev pub put_text : PutRefusal → List ℕ
+put_text NoLeg = codes "refused " ++ (decimal (put_number NoLeg) ++ codes ": a field that no leg has")
+put_text Full = codes "refused " ++ (decimal (put_number Full) ++ codes ": the outlet is full")
 
 -- A list of legs, and how many there is room for in all.
 pub record Contents (P : Type 0) : Type 0 where

@@ -1,6 +1,6 @@
 //! Why a leg is not put.
-ghost use Rattle.std.specs.Prelude.{◌≡◌};
-ghost use Rattle.outlet.specs.Outlets.{put_number};
+ghost use Rattle.std.specs.Prelude.{◌≡◌, Some};
+ghost use Rattle.outlet.specs.Outlets.{put_number, put_text};
 
 use std::fmt;
 
@@ -27,6 +27,8 @@ impl PutRefusal {
 
 /// As in `refused 31: the outlet is full`.
 impl fmt::Display for PutRefusal {
+    ghost output = { λ r. Some (put_text r) };
+
     fn fmt<W: fmt::Write>(&self, f: &mut fmt::Formatter<W>) -> fmt::Result {
         let number = self.number();
         match self {

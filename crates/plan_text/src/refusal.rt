@@ -1,6 +1,6 @@
 //! Why a line, or the whole text, is refused before any call is made.
-ghost use Rattle.std.specs.Prelude.{◌≡◌};
-ghost use Rattle.plan_text.specs.Refusals.{number_of};
+ghost use Rattle.std.specs.Prelude.{◌≡◌, Some as Just};
+ghost use Rattle.plan_text.specs.Refusals.{number_of, printed};
 
 use std::fmt;
 
@@ -34,13 +34,16 @@ impl TextRefusal {
 
 /// As in `refused 42: the form is out of place`.
 impl fmt::Display for TextRefusal {
+    ghost output = { λ f. Just (printed f) };
+
     fn fmt<W: fmt::Write>(&self, f: &mut fmt::Formatter<W>) -> fmt::Result {
         let number = self.number();
         let reason = match self {
-            TextRefusal::NoForm => "the line is no form of this turn",
+            TextRefusal::NoForm =>
+                "the line is no form of the plan text, or a point is unlike the turn's kind",
             TextRefusal::OutOfPlace => "the form is out of place",
-            TextRefusal::TextTooLong => "the text is too long",
-            TextRefusal::ShortBuffer => "the buffer is too short",
+            TextRefusal::TextTooLong => "the plan text has more than 16384 octets",
+            TextRefusal::ShortBuffer => "the buffer has fewer than 160 octets",
         };
         write!(f, "refused {number}: {reason}")
     }

@@ -1,11 +1,12 @@
 -- What becomes of a draft by a list of calls.
-use Rattle.std.specs.Prelude.{◌≡◌, ℕ, min, List, [], ◌∷◌, ℤ, pos, negsuc, Some, None, Option, Ok, Err, Result}
+use Rattle.std.specs.Prelude.{◌≡◌, ℕ, min, List, [], ◌∷◌, ◌++◌, codes, ℤ, pos, negsuc, Some, None, Option, Ok, Err, Result}
 use Rattle.ordinate.specs.Kinds.{Kind}
 use Rattle.distance.specs.Measures.{Measure}
 use Rattle.bezier.specs.Reductions.{Rule}
 use Rattle.curve.specs.Refusals.{work_wanted}
 use Rattle.turn.specs.Calls.{Answer, Call, History, Progress, Seals, lay, strike, seal}
 use Rattle.turn.specs.Settings.{Setting}
+use Rattle.turn.specs.Refusals.{printed}
 use Rattle.turn.specs.declared.refusal.Refusal.{Refusal}
 use Rattle.planner.specs.Drafts.{progress, sealed_progress, work_left}
 use Rattle.planner.specs.declared.begin.Terms.{Terms}
@@ -73,3 +74,10 @@ abbrev pub work_after : {P : Type 0} → Kind P → Measure → Rule P → ℕ �
 work_after K M R D (lay ps l work) a points = work_left K a (work_wanted K M R D ps) points
 work_after K M R D strike a points = points
 work_after K M R D seal a points = points
+
+-- ---- printing
+
+-- How it is printed why no call was made.
+abbrev pub printed_error : RunError → List ℕ
+printed_error (TermsRefused f) = codes "begin " ++ printed f
+printed_error NoMemory = codes "out of memory"

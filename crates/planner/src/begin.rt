@@ -1,5 +1,5 @@
 //! Beginning a draft.
-ghost use Rattle.std.specs.Prelude.{◌≡◌, pos, IfOk, [], None as Nothing};
+ghost use Rattle.std.specs.Prelude.{◌≡◌, pos, IfOk, []};
 ghost use Rattle.leg.specs.Reasons.{First, refusal as why};
 ghost use Rattle.outlet.specs.Outlets.{Contents};
 ghost use Rattle.turn.specs.Calls.{begun};

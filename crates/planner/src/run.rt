@@ -1,12 +1,12 @@
 //! Lists of calls, performed one after another.
-ghost use Rattle.std.specs.Prelude.{◌≡◌, ◌≤◌, [], IfOk, IfErr, length, vec_capacity};
-ghost use Rattle.leg.specs.Reasons.{First, refusal as why};
+ghost use Rattle.std.specs.Prelude.{◌≡◌, ◌≤◌, [], IfOk, IfErr, length, vec_capacity, Some as Just};
+ghost use Rattle.leg.specs.Reasons.{First};
 ghost use Rattle.turn.specs.Calls.{begun, calls_of};
 ghost use Rattle.turn.specs.Runs.{Performed, recorded};
 ghost use Rattle.turn.specs.Whole.{Whole};
 ghost use Rattle.planner.specs.Drafts.{begin_reasons, progress, setting};
 ghost use Rattle.planner.specs.declared.run.RunError.TheVariants.{NoMemory as NoRoom, Refused as TermsRefused};
-ghost use Rattle.planner.specs.Runs.{TurnAfter, agreed, first_refusal, turn_progress};
+ghost use Rattle.planner.specs.Runs.{TurnAfter, agreed, first_refusal, printed_error, turn_progress};
 
 use crate::begin::{Terms, begin};
 use crate::draft::Draft;
@@ -46,6 +46,8 @@ pub enum RunError {
 
 /// As in `begin refused 3: the agreed end is not from 1 to 65536`.
 impl fmt::Display for RunError {
+    ghost output = { λ e. Just (printed_error e) };
+
     fn fmt<W: fmt::Write>(&self, f: &mut fmt::Formatter<W>) -> fmt::Result {
         match self {
             Self::Refused(refusal) => write!(f, "begin {refusal}"),

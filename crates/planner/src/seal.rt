@@ -1,5 +1,5 @@
 //! Sealing a draft.
-ghost use Rattle.std.specs.Prelude.{◌≡◌, ◌∷◌};
+ghost use Rattle.std.specs.Prelude.{◌∷◌};
 ghost use Rattle.turn.specs.Calls.{History};
 ghost use Rattle.turn.specs.Calls.Call.{seal as the_seal};
 ghost use Rattle.turn.specs.Outcomes.{Outcome};

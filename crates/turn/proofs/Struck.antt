@@ -1,5 +1,5 @@
 -- The last legs that share a start tick: there is one way alone to take them off.
-use Rattle.std.proofs.Common.{◌≡◌, ℕ, zero, suc, ◌-◌, ◌<◌, ◌≤◌, List, [], ◌∷◌, ◌++◌, length, take, drop, get_or, Some, None, Option, ◌+◌, ◌⊎◌, inl, inr, sym, refl, ap, ◌∙◌, subst, ap₂, arith, drop-cons}
+use Rattle.std.proofs.Common.{◌≡◌, ℕ, zero, suc, ◌-◌, ◌<◌, ◌≤◌, List, [], ◌∷◌, ◌++◌, length, take, drop, get_or, Some, None, Option, ◌+◌, ◌⊎◌, inl, inr, sym, refl, ap, ◌∙◌, subst, ap₂, arith}
 use Rattle.std.proofs.lemmas.List.{length-drop, length-take-le, take-append-drop, take_all}
 use Rattle.std.proofs.lemmas.Option.{same_Some}
 use Rattle.leg.specs.Chains.{Each, Last, last_or}
@@ -63,12 +63,6 @@ module _ {P : Type 0} where
 -- ---- a strike that is found by looking at one leg after another, from the last one back
 
 module _ {P : Type 0} where
-  -- one more leg is off
-  pub shared_more : (S : ℕ) (ls : List (Leg P)) (n : ℕ) (l : Leg P) → 1 ≤ n → n ≤ length ls → l ≡ get_or ls (n - 1) l → From S l → Each (From S) (drop n ls) → Each (From S) (drop (n - 1) ls)
-  shared_more S ls n l some within e f h =
-      let q : suc (n - 1) ≡ n = omega arith in
-      subst (Each (From S)) (sym (drop-cons ls (n - 1) l (omega arith))) (subst (From S) e f, subst (λ (i : ℕ). Each (From S) (drop i ls)) (sym q) h)
-
   last_at : (o : Option (Leg P)) (ls : List (Leg P)) (i : ℕ) (d : Leg P) → i < length ls → last_or o (take (suc i) ls) ≡ Some (get_or ls i d)
   last_at o [] i d h = absurd (omega arith)
   last_at o (l ∷ ls) zero d h = refl

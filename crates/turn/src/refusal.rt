@@ -1,6 +1,6 @@
 //! Why a call is refused.
-ghost use Rattle.std.specs.Prelude.{◌≡◌};
-ghost use Rattle.turn.specs.Refusals.{row};
+ghost use Rattle.std.specs.Prelude.{◌≡◌, Some as Just};
+ghost use Rattle.turn.specs.Refusals.{printed, row};
 ghost use Rattle.turn.specs.declared.refusal.Refusal.TheVariants.{Curve};
 
 use curve::refusal::CurveRefusal;
@@ -76,11 +76,13 @@ impl From<CurveRefusal> for Refusal {
 
 /// As in `refused 11: the curve is too bent`, and `refused 6: point 3 lies beyond the limit`.
 impl fmt::Display for Refusal {
+    ghost output = { λ f. Just (printed f) };
+
     fn fmt<W: fmt::Write>(&self, f: &mut fmt::Formatter<W>) -> fmt::Result {
         let words = match self {
             Refusal::Curve(refusal) => return write!(f, "{refusal}"),
             Refusal::End => "the agreed end is not from 1 to 65536",
-            Refusal::Foreign => "the outlet holds other legs than the draft has put",
+            Refusal::Foreign => "the outlet's count is not that of the draft or sealed turn",
             Refusal::Ticks => "a span lasts from 1 to 4096 ticks",
             Refusal::PastEnd => "the span ends past the agreed end",
             Refusal::Apart => "the span does not start where the last leg ends",
