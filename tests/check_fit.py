@@ -10,7 +10,8 @@ import make_plan_examples
 from card import Refusal
 from curves import fitted
 from curves_samples import Curve
-from differences import Differences, print_if_none, run
+from differences import Differences, check_usage, print_if_none, run
+from doc_examples import usage
 from fit_text import WrongUse, arguments_of, fit
 
 # Of each kind, reduction and degree, so many curves with legs and so many that are too
@@ -100,9 +101,9 @@ def wrong_arguments() -> Iterator[list[str]]:
     good = ["flow", "chord", "10", "1", "0", "5"]
     for number in range(4):
         yield good[:number]
-    for kind in ("", "Flow", "FLOW", "flows", "flow ", "1", "canal", "chord"):
+    for kind in ("", "Flow", "FLOW", "flows", "flow ", " flow", "1", "canal", "chord"):
         yield [kind, *good[1:]]
-    for reduction in ("", "Chord", "chords", "arc", "1", "flow"):
+    for reduction in ("", "Chord", "chords", "chord ", " chord", "arc", "1", "flow"):
         yield [good[0], reduction, *good[2:]]
     for i, word in enumerate(NO_NUMBERS):
         for at in (2 + i % 2, 4 + i % 2):
@@ -137,9 +138,7 @@ def check_arguments(program: str, found: Differences) -> None:
     wrong = list(wrong_arguments())
     for arguments in wrong:
         expect_wrong_use(program, arguments, found)
-    out, status, error = run(program, ["--help"])
-    if status != 0 or not out:
-        found.tell("fit --help", None, "status 0 and the usage", f"status {status}, {out!r}")
+    check_usage(program, usage("curves.md", "fit"), found)
     told = f"{len(numbers)} uses of unusual numbers, {len(wrong)} wrong uses"
     print_if_none(found, f"fit: {told}: all as said")
 

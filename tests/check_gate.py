@@ -9,11 +9,13 @@ from random import Random
 
 import make_examples
 from card import FLOW, GREATEST_TICK, Card, Refusal, last_tick, read
-from differences import Differences, print_if_none, run
+from differences import Differences, check_usage, print_if_none, run
+from doc_examples import usage
 from drafts import Sample
 from gate_text import gate
 
-GATE_CARDS = 150
+ACCEPTED_CARDS = 75
+CARDS_OF_A_REFUSAL = 13
 # Above this, asking for every tick would take the second reader too long.
 GATE_TICKS_UP_TO = 2_000
 
@@ -47,16 +49,19 @@ def compare_examples(program: str, found: Differences) -> None:
 
 
 def gate_samples(rng: Random, samples: Sequence[Sample]) -> list[Sample]:
-    """Accepted cards whose turn is not too long, and refused ones, half and half."""
-    accepted, refused = [], []
+    """Accepted cards whose turn is not too long, and so many of each refusal."""
+    accepted: list[Sample] = []
+    refused: dict[int, list[Sample]] = {}
     for sample in samples:
         card = read(sample.octets)
         if isinstance(card, Refusal):
-            refused.append(sample)
+            refused.setdefault(card.number, []).append(sample)
         elif last_tick(card.legs) <= GATE_TICKS_UP_TO:
             accepted.append(sample)
-    half = GATE_CARDS // 2
-    return rng.sample(accepted, half) + rng.sample(refused, half)
+    chosen = rng.sample(accepted, ACCEPTED_CARDS)
+    for number in sorted(refused):
+        chosen += rng.sample(refused[number], CARDS_OF_A_REFUSAL)
+    return chosen
 
 
 def gate_uses(rng: Random, octets: bytes, file: str) -> Iterator[tuple[list[str], list[int]]]:
@@ -98,12 +103,39 @@ def compare_long(program: str, samples: Sequence[Sample], found: Differences) ->
     print_if_none(found, "gate: the longest turn, and a large card: as the second reader says")
 
 
-def expect_wrong_use(program: str, arguments: Sequence[str], found: Differences) -> None:
-    """Status 1 and a message of one line. What is on standard output is not said."""
-    out, status, error = run(program, arguments)
-    if status != 1 or not error.startswith("gate: ") or error.count("\n") != 1:
+def expect_wrong_use(
+    program: str,
+    arguments: Sequence[str],
+    found: Differences,
+    word: str = "",
+    folder: str | None = None,
+) -> None:
+    """Status 1 and a message of one line, which has the word, and nothing printed."""
+    out, status, error = run(program, arguments, b"", folder)
+    told = error.startswith("gate: ") and word in error and error.count("\n") == 1
+    if (out, status) != ("", 1) or not told:
         came = f"status {status}, {out!r}, on standard error {error!r}"
-        found.tell(f"gate {arguments}", None, "status 1 and a message on standard error", came)
+        expected = f"status 1, and only a message with {word!r} on standard error"
+        found.tell(f"gate {arguments}", None, expected, came)
+
+
+def check_order_of_faults(program: str, found: Differences) -> None:
+    """The arguments are looked at before the file, and the file before the card."""
+    flow = make_examples.EXAMPLES / "two-halves.card"
+    expect_wrong_use(program, ["no-such.card", "x"], found, "'x'")
+    expect_wrong_use(program, [str(flow), "1", "x", "y"], found, "'x'")
+    expect_wrong_use(program, ["no-such.card", "1"], found, "no-such.card")
+    with tempfile.TemporaryDirectory() as folder:
+        # An option, and no file, though there is one.
+        (Path(folder) / "-x").write_bytes(flow.read_bytes())
+        expect_wrong_use(program, ["-x"], found, "'-x'", folder)
+        expect_wrong_use(program, ["--x"], found, "'--x'", folder)
+        out, status, _ = run(program, ["./-x"], b"", folder)
+        if (out, status) != gate(flow.read_bytes()):
+            found.tell("gate ./-x", None, "the card", f"{(out, status)}")
+
+
+NO_TICKS = ("x", "", "1x", "1.5", "one", " 1", "1 ", "0x1", "1_0", "-", "+", "\u0663", "\xb2")
 
 
 def check_wrong_use(program: str, found: Differences) -> None:
@@ -111,7 +143,7 @@ def check_wrong_use(program: str, found: Differences) -> None:
     flow, box = str(folder / "two-halves.card"), str(folder / "box-turn.card")
     missing = str(folder / "no-such.card")
     wrong = [["--no-such-option"], ["--no-such-option", flow], [missing], [str(folder)]]
-    wrong += [[flow, tick] for tick in ("x", "", "1x", "1.5", "one")]
+    wrong += [[flow, tick] for tick in NO_TICKS]
     wrong += [[flow, "1", "x"], [flow, "x", "1"], [box, "0"], [box, "1", "99"]]
     for arguments in wrong:
         expect_wrong_use(program, arguments, found)
@@ -122,9 +154,8 @@ def check_wrong_use(program: str, found: Differences) -> None:
         if status != 1 or not (error or f"tick {arguments[1]}: refused 16" in out):
             came = f"status {status}, {out!r}, on standard error {error!r}"
             found.tell(f"gate {arguments}", None, "status 1, and a word about the tick", came)
-    out, status, error = run(program, ["--help"])
-    if status != 0 or not out:
-        found.tell("gate --help", None, "status 0 and the usage", f"status {status}, {out!r}")
+    check_order_of_faults(program, found)
+    check_usage(program, usage("gate.md", "gate"), found)
     print_if_none(found, f"gate: {len(wrong) + len(far)} wrong uses: all told")
 
 
@@ -142,8 +173,12 @@ def check_example_option(program: str, found: Differences) -> None:
                 came = f"{(content, out, status)}, on standard error {error!r}"
                 found.tell(f"gate --example {file.name}", None, str(expected), came)
         wrong: list[list[str]] = [[], [""], [folder], [f"{folder}/none/a.card"], [f"{old}/a.card"]]
+        another = str(Path(folder) / "another.card")
+        wrong += [[another, another], [another, "x"]]
         for arguments in wrong:
             expect_wrong_use(program, ["--example", *arguments], found)
+        if Path(another).exists():
+            found.tell("gate --example with two files", None, "no file", "a file")
     print_if_none(found, f"gate --example: the example, and {len(wrong)} wrong uses: all as said")
 
 

@@ -5,10 +5,11 @@ from __future__ import annotations
 from collections.abc import Sequence
 from typing import Protocol
 
-from differences import Differences, run
+from differences import Differences, print_if_none, run
 from trials import Exchange
+from wrong_scripts import WrongScript
 
-SCRIPTS_IN_A_RUN = 100
+SCRIPTS_IN_A_RUN = 1_000
 
 
 class Script(Protocol):
@@ -49,3 +50,24 @@ def compare_run(name: str, program: str, scripts: Sequence[Script], found: Diffe
 def compare_scripts(name: str, program: str, scripts: Sequence[Script], found: Differences) -> None:
     for at in range(0, len(scripts), SCRIPTS_IN_A_RUN):
         compare_run(name, program, scripts[at : at + SCRIPTS_IN_A_RUN], found)
+
+
+def expect_wrong_line(name: str, program: str, script: WrongScript, found: Differences) -> None:
+    """The lines before it are answered, and the message names it. What follows it is not read."""
+    printed = "".join(f"{line}\n" for exchange in script.exchanges for line in exchange.printed)
+    lines = [*(exchange.line for exchange in script.exchanges), script.wrong]
+    said = "".join(f"{line}\n" for line in (*lines, "table flow 1"))
+    out, status, error = run(program, [], said.encode("latin-1"))
+    message = f"{name}: line {len(lines)}: "
+    if (out, status) != (printed, 1) or not error.startswith(message) or error.count("\n") != 1:
+        expected = f"{printed!r}, status 1, and {message!r} on standard error"
+        came = f"{out!r}, status {status}, on standard error {error!r}"
+        found.tell(f"{name}, the wrong line {script.wrong!r}", None, expected, came)
+
+
+def compare_wrong_scripts(
+    name: str, program: str, scripts: Sequence[WrongScript], found: Differences
+) -> None:
+    for script in scripts:
+        expect_wrong_line(name, program, script, found)
+    print_if_none(found, f"{name}: {len(scripts)} wrong lines: all told")

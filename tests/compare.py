@@ -1,8 +1,9 @@
 """Holds the real programs to the second implementation: the calls for C, gate, trial,
-fit, drafts, plan and plan_card.
+fit, drafts, plan, plan_card and bench_curves.
 
     python3 tests/compare.py [--calls PROGRAM] [--gate PROGRAM] [--trial PROGRAM]
-        [--fit PROGRAM] [--drafts PROGRAM] [--plan PROGRAM] [--plan-card PROGRAM] [--seed N]
+        [--fit PROGRAM] [--drafts PROGRAM] [--plan PROGRAM] [--plan-card PROGRAM]
+        [--bench PROGRAM] [--seed N]
 
 Only the programs that are given are compared, and the last line names the others. The
 program for --calls is tests/c/card_calls.c, linked with the library; the lines that
@@ -21,6 +22,7 @@ sys.path.insert(0, str(Path(__file__).resolve().parent / "second"))
 
 import selfcheck
 from cards import DEFAULT_SEED
+from check_bench import check_bench
 from check_calls import compare_calls
 from check_drafts import compare_drafts
 from check_fit import check_fit
@@ -39,6 +41,7 @@ PROGRAMS = {
     "drafts": "the program drafts",
     "plan": "the program plan",
     "plan_card": "the program plan_card",
+    "bench": "the program bench_curves",
 }
 
 
@@ -80,6 +83,8 @@ def compare(given: argparse.Namespace, samples: selfcheck.Samples, found: Differ
         check_plan(given.plan, samples.texts, found)
     if given.plan_card:
         check_plan_card(given.plan_card, samples.texts, Random(given.seed), found)
+    if given.bench:
+        check_bench(given.bench, found)
 
 
 def main() -> int:

@@ -9,6 +9,7 @@ from random import Random
 
 from card import KINDS, Kind, Refusal
 from curves import (
+    CHORD,
     GREATEST_DEGREE,
     LIMIT,
     REDUCTIONS,
@@ -155,14 +156,32 @@ def deep_curves(rng: Random) -> Iterator[Curve]:
             yield drawn_curve(rng, kind, reduction, degree, depth, rng.choice(list(SORTS)))
 
 
+def bent_alike(kind: Kind) -> Row:
+    """Nine points of a parabola up to the limit: with chord each of its cells of a depth wants
+    the same tolerance."""
+    return tuple((i * (8 - i) * (LIMIT // 16),) * kind.coordinates for i in range(9))
+
+
+def by_turns(kind: Kind, number: int) -> Row:
+    """Points at the lower and the upper limit by turns."""
+    return tuple(((-LIMIT, LIMIT)[i % 2],) * kind.coordinates for i in range(number))
+
+
+def deepest_curves() -> Iterator[Curve]:
+    """The most work points that a curve wants; with chord, the most legs that it comes to."""
+    for kind, reduction in product(KINDS, REDUCTIONS):
+        row = bent_alike(kind) if reduction == CHORD else by_turns(kind, 9)
+        tolerance = least_tolerance(kind, reduction, 10, row)
+        yield Curve("nine points, depth 10", Terms(kind, reduction, tolerance, 10), row)
+
+
 def limit_curves() -> Iterator[Curve]:
     """Curves between the two limits, with the largest and the smallest tolerance."""
     for kind, reduction, tolerance in product(KINDS, REDUCTIONS, (1, LIMIT)):
         for degree in degrees_of(reduction):
             ends = ((-LIMIT,) * kind.coordinates, (LIMIT,) * kind.coordinates)
-            by_turns = tuple(ends[i % 2] for i in range(degree + 1))
             terms = Terms(kind, reduction, tolerance, 3)
-            yield Curve("between the limits by turns", terms, by_turns)
+            yield Curve("between the limits by turns", terms, by_turns(kind, degree + 1))
             yield Curve("at the upper limit", terms, ends[1:] * (degree + 1))
             yield Curve("at the lower limit, but for its end", terms, ends[:1] * degree + ends[1:])
 
@@ -220,4 +239,5 @@ def refused_curves() -> Iterator[Curve]:
 
 def all_curves(seed: int) -> list[Curve]:
     rng = Random(seed)
-    return [*drawn_curves(rng), *deep_curves(rng), *limit_curves(), *refused_curves()]
+    drawn = [*drawn_curves(rng), *deep_curves(rng)]
+    return [*drawn, *deepest_curves(), *limit_curves(), *refused_curves()]

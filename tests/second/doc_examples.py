@@ -14,6 +14,13 @@ def blocks(name: str) -> list[str]:
     return [part[1:] for part in parts[1::2] if part.startswith("\n")]
 
 
+def usage(name: str, program: str) -> list[str]:
+    """How the page says that the program is called, a line for each way."""
+    forms = [block.splitlines() for block in blocks(name) if block.startswith(f"{program} ")]
+    assert len(forms) == 1, f"{name} says once how {program} is called"
+    return forms[0]
+
+
 def fit_examples() -> list[tuple[list[str], str]]:
     """The arguments of each run of fit, and what it prints."""
     examples = []

@@ -14,7 +14,8 @@ from itertools import product
 from random import Random
 
 from card import HEADER_LENGTH, KINDS, Leg, Point, Refusal
-from curves import LIMIT, REDUCTIONS
+from curves import LIMIT, REDUCTIONS, least_tolerance
+from curves_samples import by_turns
 from outlets import Outlet
 from trials import Exchange, leg_text, put_line, state_of
 from turn_samples import (
@@ -37,7 +38,7 @@ from turn_samples import (
     drawn_list,
     drawn_start,
 )
-from turns import Draft, Sealed, begin
+from turns import Draft, Sealed, Span, begin
 
 # --- What the program prints
 
@@ -211,6 +212,16 @@ def terms_scripts() -> Iterator[Script]:
             yield script
 
 
+def deepest_scripts() -> Iterator[Script]:
+    """Nine points at depth 10, with as many work points as any curve wants, fewer and more."""
+    for kind, reduction in product(KINDS, REDUCTIONS):
+        row = by_turns(kind, 9)
+        enough = least_tolerance(kind, reduction, 10, row)
+        for tolerance in (enough - 1, enough, LIMIT):
+            start = Start("table", 2, kind, reduction, tolerance, 10, 4)
+            yield script_of(start, [Lay(Span(row, 4), work) for work in (98, 99, 101)])
+
+
 def small_starts(rng: Random) -> Iterator[Start]:
     """Tables and cards of every small size."""
     for kind, reduction in product(KINDS, REDUCTIONS):
@@ -230,5 +241,6 @@ def all_turn_scripts(seed: int, turn_lists: Sequence[TurnList]) -> list[Script]:
         if rng.random() < BEGUN_AGAIN:
             begin_again(rng, script)
     scripts += terms_scripts()
+    scripts += deepest_scripts()
     rng.shuffle(scripts)
     return scripts

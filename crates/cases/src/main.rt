@@ -14,6 +14,7 @@ use distance::measure::Distance;
 use distance::points::halved;
 use ordinate::branches::Branches;
 use ordinate::flow::Flow;
+use plan_text::print::{LINE_ROOM, print_sealed};
 use planner::begin::Terms;
 use std::alloc::{AllocError, Global};
 use std::fmt::Display;
@@ -156,13 +157,25 @@ fn print_limits(rt: &HostRuntime) -> anyhow::Result<()> {
     print_turn::<Flow, Chord>(rt, "flow chord", within(1, 0), &past_limit)
 }
 
-/// In the order of `worked` (specs/Cases.antt).
+/// A line printed into so many octets: it is refused where they are too few for any line.
+fn print_into(rt: &HostRuntime, octets: usize) -> anyhow::Result<()> {
+    let mut buffer = vec![in rt.alloc(); 0u8; octets]?;
+    match print_sealed(2, 4, &mut buffer) {
+        Ok(length) => println!(rt; "a line into {octets} octets: {length} printed")?,
+        Err(refusal) => println!(rt; "a line into {octets} octets: {refusal}")?,
+    }
+    Ok(())
+}
+
+/// In the order of `worked` (specs/Cases.antt), and then what no case is about.
 fn main(rt: HostRuntime) -> anyhow::Result<()> {
     print_flows(&rt)?;
     print_boxes(&rt)?;
     print_halving(&rt, -1, 0)?;
     print_halving(&rt, 0, 1)?;
     print_limits(&rt)?;
+    print_into(&rt, LINE_ROOM - 1)?;
+    print_into(&rt, LINE_ROOM)?;
     println!(rt; "table and card agree")?;
     println!(rt; "{} cases", worked_cases_hold())?;
     Ok(())
