@@ -159,6 +159,30 @@ def check_wrong_use(program: str, found: Differences) -> None:
     print_if_none(found, f"gate: {len(wrong) + len(far)} wrong uses: all told")
 
 
+BOX_CARD = str(make_examples.EXAMPLES / "box-turn.card")
+# The whole message of some wrong uses.
+MESSAGES: tuple[tuple[list[str], str], ...] = (
+    (
+        ["no-such.card", "x"],
+        "'x' is no tick: a tick is a whole number from 0 to 4294967295; try 'gate --help'",
+    ),
+    (["--x"], "there is no option '--x'; try 'gate --help'"),
+    (["--example"], "--example wants one file; try 'gate --help'"),
+    (["no-such.card"], "cannot read 'no-such.card': No such file or directory (os error 2)"),
+    ([BOX_CARD, "0"], "this is a box card, and values are told of flow cards alone"),
+)
+
+
+def check_messages(program: str, found: Differences) -> None:
+    """The program's name and what is wrong, each once, and nothing else."""
+    for arguments, message in MESSAGES:
+        expected = ("", 1, f"gate: {message}\n")
+        came = run(program, arguments)
+        if came != expected:
+            found.tell(f"gate {arguments}", None, str(expected), str(came))
+    print_if_none(found, f"gate: {len(MESSAGES)} messages: word for word")
+
+
 def check_example_option(program: str, found: Differences) -> None:
     """gate --example FILE writes the example of card.md, and nothing else is in FILE."""
     octets = make_examples.cards()["two-halves"]
@@ -187,4 +211,5 @@ def check_gate(program: str, samples: Sequence[Sample], rng: Random, found: Diff
     compare_gate(program, samples, rng, found)
     compare_long(program, samples, found)
     check_wrong_use(program, found)
+    check_messages(program, found)
     check_example_option(program, found)
