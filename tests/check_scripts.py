@@ -50,6 +50,8 @@ def compare_run(name: str, program: str, scripts: Sequence[Script], found: Diffe
 def compare_scripts(name: str, program: str, scripts: Sequence[Script], found: Differences) -> None:
     for at in range(0, len(scripts), SCRIPTS_IN_A_RUN):
         compare_run(name, program, scripts[at : at + SCRIPTS_IN_A_RUN], found)
+    # Nothing is asked for, and that is no error.
+    compare_run(name, program, (), found)
 
 
 def expect_wrong_line(name: str, program: str, script: WrongScript, found: Differences) -> None:
@@ -58,8 +60,9 @@ def expect_wrong_line(name: str, program: str, script: WrongScript, found: Diffe
     lines = [*(exchange.line for exchange in script.exchanges), script.wrong]
     said = "".join(f"{line}\n" for line in (*lines, "table flow 1"))
     out, status, error = run(program, [], said.encode("latin-1"))
-    message = f"{name}: line {len(lines)}: "
-    if (out, status) != (printed, 1) or not error.startswith(message) or error.count("\n") != 1:
+    message = f"{name}: line {len(lines)}: {script.why}"
+    whole = error == f"{message}\n" if script.why else error.startswith(message)
+    if (out, status) != (printed, 1) or not whole or error.count("\n") != 1:
         expected = f"{printed!r}, status 1, and {message!r} on standard error"
         came = f"{out!r}, status {status}, on standard error {error!r}"
         found.tell(f"{name}, the wrong line {script.wrong!r}", None, expected, came)

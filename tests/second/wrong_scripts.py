@@ -18,10 +18,12 @@ from turns import Span
 
 @dataclass(frozen=True)
 class WrongScript:
-    """Lines that are answered, and then one that is not."""
+    """Lines that are answered, and then one that is not. The message says why after the
+    line's number; where that is empty it may say anything."""
 
     exchanges: Sequence[Exchange]
     wrong: str
+    why: str = ""
 
 
 # --- Lines that neither program has
@@ -45,6 +47,8 @@ STARTS = (
     "card Box 8",
     "card box 8 8",
     "record flow 1",
+    # There is no such memory.
+    *(f"table flow {2**64 - 1}", f"card box {2**64 - 1}"),
 )
 CALLS = (
     "",
@@ -68,13 +72,41 @@ CALLS = (
     " keep 1",
     "Keep 1",
 )
-FIRST_LINES = ("", "put 0 1 0 0 1 0 0 0", "keep 0", "table", "starts flow 1", " table flow 1")
+NO_MEMORY = "memory allocation failed"
+# What both programs say of some of them.
+WHY = {
+    f"table flow {2**64 - 1}": NO_MEMORY,
+    f"card box {2**64 - 1}": NO_MEMORY,
+    "table": "there is no kind",
+    "card": "there is no kind",
+    "table canal 1": "'canal' is no kind: a kind is flow or box",
+    "card Box 8": "'Box' is no kind: a kind is flow or box",
+    "table flow": "there is a number too few",
+    "table flow x": "'x' is no number that can stand here",
+    "card box 8 8": "'8' is a word too many",
+    "put 0 1 0 0 1 0 0": "there is a number too few",
+    "put 0 1 0 0 1 0 0 0 0": "'0' is a word too many",
+    "put 0 1 0 0 1  0 0 0": "'' is no number that can stand here",
+    f"keep {2**64}": f"'{2**64}' is no number that can stand here",
+}
+FIRST_LINES = ("", "\xff", "table", "starts flow 1", " table flow 1")
+FIRST_CALLS = ("put 0 1 0 0 1 0 0 0", "keep 0")
 
 
 def first_lines() -> Iterator[WrongScript]:
     """The first line has to start an outlet."""
     for line in FIRST_LINES:
-        yield WrongScript((), line)
+        yield WrongScript((), line, WHY.get(line, ""))
+    for line in FIRST_CALLS:
+        yield WrongScript((), line, "no outlet is started yet")
+
+
+def late_line() -> WrongScript:
+    """A line with a number that takes more than eight bits."""
+    script = TrialScript("table", FLOW, 0)
+    for _ in range(300):
+        script.say("keep 0")
+    return WrongScript(script.exchanges, "keep", "there is a number too few")
 
 
 # --- trial
@@ -84,15 +116,20 @@ TRIAL_CALLS = (
     *("rewrite", "rewrite x", "rewrite -1", "rewrite 8 8", "rewrite 8 "),
     *("begin chord 1 0 4", "strike", "seal", "tell 0", "list 0", "lay 4 2 7 7"),
 )
+TRIAL_WHY = {
+    line: f"'{line}' is no line of a script"
+    for line in ("", "end", " keep 1", "Table flow 1", "strike", "tell 0", "lay 4 2 7 7")
+}
 
 
 def wrong_trials() -> Iterator[WrongScript]:
     yield from first_lines()
+    yield late_line()
     yield WrongScript((), "get 0")
     script = TrialScript("card", FLOW, 80)
     script.say("put 0 4 1 0 2 0 -2 8")
     for line in chain(STARTS, CALLS, TRIAL_CALLS):
-        yield WrongScript(script.exchanges, line)
+        yield WrongScript(script.exchanges, line, (WHY | TRIAL_WHY).get(line, ""))
     yield WrongScript(TrialScript("table", BOX, 2).exchanges, "put 0 1 0 0 1 0 0 0 0 0")
 
 
@@ -138,10 +175,11 @@ def without_turn() -> Iterator[TurnScript]:
 
 def wrong_drafts() -> Iterator[WrongScript]:
     yield from first_lines()
+    yield late_line()
     for line in (*DRAFT_CALLS, *SEALED_CALLS, "begin chord 1 0 4"):
         yield WrongScript((), line)
     for line in chain(STARTS, CALLS, DRAFTS_LINES):
-        yield WrongScript(begun().exchanges, line)
+        yield WrongScript(begun().exchanges, line, WHY.get(line, ""))
     for line in ("lay 4 2 7", "lay 4 2 7 7 7", "lay 4 2 7 7 7 7 7"):
         yield WrongScript(begun(BOX).exchanges, line)
     for script in without_turn():
