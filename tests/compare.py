@@ -1,9 +1,9 @@
 """Holds the real programs to the second implementation: the calls for C, gate, trial,
-fit, drafts, plan, plan_card and bench_curves.
+fit, drafts, plan, plan_card, bench_curves and bench_texts.
 
     python3 tests/compare.py [--calls PROGRAM] [--gate PROGRAM] [--trial PROGRAM]
         [--fit PROGRAM] [--drafts PROGRAM] [--plan PROGRAM] [--plan-card PROGRAM]
-        [--bench PROGRAM] [--seed N]
+        [--bench PROGRAM] [--bench-texts PROGRAM] [--seed N]
 
 Only the programs that are given are compared, and the last line names the others. The
 program for --calls is tests/c/card_calls.c, linked with the library; the lines that
@@ -22,7 +22,7 @@ sys.path.insert(0, str(Path(__file__).resolve().parent / "second"))
 
 import selfcheck
 from cards import DEFAULT_SEED
-from check_bench import check_bench
+from check_bench import check_bench, check_bench_texts
 from check_calls import compare_calls
 from check_drafts import compare_drafts
 from check_fit import check_fit
@@ -42,6 +42,7 @@ PROGRAMS = {
     "plan": "the program plan",
     "plan_card": "the program plan_card",
     "bench": "the program bench_curves",
+    "bench_texts": "the program bench_texts",
 }
 
 
@@ -85,6 +86,8 @@ def compare(given: argparse.Namespace, samples: selfcheck.Samples, found: Differ
         check_plan_card(given.plan_card, samples.texts, Random(given.seed), found)
     if given.bench:
         check_bench(given.bench, found)
+    if given.bench_texts:
+        check_bench_texts(given.bench_texts, found)
 
 
 def main() -> int:
