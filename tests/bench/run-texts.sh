@@ -6,10 +6,9 @@
 set -euo pipefail
 cd "$(dirname "$0")/../.."
 
-rounds=${1:-1}
-[[ $# -le 1 && $rounds =~ ^[1-9][0-9]*$ ]] || { echo 'usage: tests/bench/run-texts.sh [NUMBER-OF-ROUNDS]'; exit 1; }
-
 source tests/bench/turns.sh
+
+rounds=$(number_asked ROUNDS 1 "$@")
 build plain_texts.rs bench_texts
 python3 tests/second/bench_plans.py texts >"$work/texts"
 # A round takes some 20 ms, and of many such turns some are not interrupted even on a machine with much else to do.

@@ -6,10 +6,9 @@
 set -euo pipefail
 cd "$(dirname "$0")/../.."
 
-curves=${1:-2000}
-[[ $# -le 1 && $curves =~ ^[1-9][0-9]*$ ]] || { echo 'usage: tests/bench/run.sh [NUMBER-OF-CURVES]'; exit 1; }
-
 source tests/bench/turns.sh
+
+curves=$(number_asked CURVES 2000 "$@")
 build plain.rs bench_curves
 # So few curves take some 5 ms, and of many such turns some are not interrupted even on a machine with much else to do.
 take_turns 200 curves /dev/null "$curves"

@@ -3,6 +3,12 @@
 work=$(mktemp -d)
 trap 'rm -rf "$work"' EXIT
 
+# number_asked THINGS NUMBER [ARGUMENT..]: the number of THINGS that the arguments ask for, NUMBER where there are none.
+number_asked() {
+    [[ $# -le 3 && ${3-$2} =~ ^[1-9][0-9]*$ ]] || { echo "usage: $0 [NUMBER-OF-$1]" >&2; exit 1; }
+    echo "${3-$2}"
+}
+
 # build SOURCE CRATE: the two programs, as $work/plain and $work/rattle. To build is to run once too.
 build() {
     local input=/dev/null

@@ -1,5 +1,5 @@
 -- The cards of promised turns.
-use Rattle.std.proofs.Common.{◌≡◌, inl, inr, ℕ, ◌+◌, ◌-◌, ◌*◌, ◌/◌, ◌≤◌, min, List, length, Some, None, Option, vec_items, sym, subst, ◌∙◌, arith}
+use Rattle.std.proofs.Common.{◌≡◌, inl, inr, ℕ, ◌+◌, ◌-◌, ◌*◌, ◌/◌, ◌≤◌, min, List, length, Some, None, Option, vec_items, sym, ap, subst, ◌∙◌, arith}
 use Rattle.std.specs.Global.{Vec}
 use Rattle.std.proofs.Math.Nat.{mul-div_cancel_left}
 use Rattle.ordinate.specs.Kinds.{Kind, Lawful}
@@ -15,7 +15,7 @@ use Rattle.card.specs.Records.{record_length}
 use Rattle.card.proofs.Carried.{carried_accepted}
 use Rattle.card_writer.specs.Outlet.{Fit, Refuses}
 use Rattle.card_writer.proofs.Listing.{fit_unrefused, written_carries}
-use Rattle.card_writer.proofs.Started.{written_long}
+use Rattle.card_writer.proofs.Started.{card_length, written_long}
 use Rattle.plan_session.specs.Cards.{GivesCard, GivesReadCard, IsRead, MakesCard, StateCard, StateIsRead}
 use Rattle.plan_session.specs.Makings.{Made}
 use Rattle.plan_session.specs.Promises.{Promise}
@@ -55,7 +55,7 @@ module _ {P : Type 0} (K : Kind P) (law : Lawful K) where
   read_of m (Some card) r (inr x) =
       let few = r.few in
       let carries = card_carries K m.contents.legs (vec_items card) r.legs r.chained (omega arith) x.1 in
-      (x.0, carries, carried_accepted K (vec_items card) law m.contents.legs carries)
+      (x.0, carries, ap length x.1 ∙ card_length K m.contents.legs (exact K m.contents.legs) (omega arith), carried_accepted K (vec_items card) law m.contents.legs carries)
   read_of m None r (inr x) = let few = r.few in absurd (x.1 r.legs (omega arith))
 
 state_read : (s : State) (card : Option (Vec ℕ)) → StageReady s → StateCard s card → StateIsRead s card

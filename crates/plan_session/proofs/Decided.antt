@@ -14,13 +14,7 @@ use Rattle.plan_session.specs.Replies.{reply_text}
 use Rattle.plan_session.specs.Sessions.{State, waiting, flow_turn, box_turn, flow_at, box_at, begun_by, measure_of}
 use Rattle.plan_session.specs.Texts.{Adds, Printed, legs_before}
 use Rattle.plan_session.specs.Views.{View, next_number}
-use Rattle.plan_session.proofs.Once.{box_typed_once, flow_typed_once, one_called, one_judged, one_said, one_view, same_points}
-
-same_some : {A : Type 0} (x y : A) → Some x ≡ Some y → x ≡ y
-same_some x y e = cc
-
-same_form : (line : List ℕ) (f g : PlanForm) → Says line (Some f) → Says line (Some g) → f ≡ g
-same_form line f g s t = same_some f g (one_said line (Some f) (Some g) s t)
+use Rattle.plan_session.proofs.Once.{box_turn_once, box_typed_once, flow_turn_once, flow_typed_once, one_called, one_judged, one_view, same_form, same_points}
 
 same_turn : (line : List ℕ) (t u : TurnForm) → Says line (Some (turn_form t)) → Says line (Some (turn_form u)) → t ≡ u
 same_turn line t u a b = let e = same_form line (turn_form t) (turn_form u) a b in cc
@@ -75,12 +69,6 @@ module _ {P : Type 0} (at : P → At) (wrap : Made P → State) where
 
 -- ---- flow and box
 
-flow_once : (m n : Made Flow) → flow_turn m ≡ flow_turn n → m ≡ n
-flow_once m n e = cc
-
-box_once : (m n : Made Branches) → box_turn m ≡ box_turn n → m ≡ n
-box_once m n e = cc
-
 -- A turn is of one kind.
 one_kind : (lines : List (List ℕ)) (m : Made Flow) (n : Made Branches) (h : History Flow) (k : History Branches) → Tells flow_at flow_turn lines m h → Tells box_at box_turn lines n k → ⊥
 one_kind [] m n h k x y = x
@@ -102,11 +90,11 @@ one_state lines waiting waiting x y = refl
 one_state lines waiting (flow_turn n) x y = absurd (no_turn flow_at flow_turn lines n y.0 x y.1)
 one_state lines waiting (box_turn n) x y = absurd (no_turn box_at box_turn lines n y.0 x y.1)
 one_state lines (flow_turn m) waiting x y = absurd (no_turn flow_at flow_turn lines m x.0 y x.1)
-one_state lines (flow_turn m) (flow_turn n) x y = ap flow_turn (one_told flow_at flow_turn flow_typed_once flow_once lines m n x.0 y.0 x.1 y.1).0
+one_state lines (flow_turn m) (flow_turn n) x y = ap flow_turn (one_told flow_at flow_turn flow_typed_once flow_turn_once lines m n x.0 y.0 x.1 y.1).0
 one_state lines (flow_turn m) (box_turn n) x y = absurd (one_kind lines m n x.0 y.0 x.1 y.1)
 one_state lines (box_turn m) waiting x y = absurd (no_turn box_at box_turn lines m x.0 y x.1)
 one_state lines (box_turn m) (flow_turn n) x y = absurd (one_kind lines n m y.0 x.0 y.1 x.1)
-one_state lines (box_turn m) (box_turn n) x y = ap box_turn (one_told box_at box_turn box_typed_once box_once lines m n x.0 y.0 x.1 y.1).0
+one_state lines (box_turn m) (box_turn n) x y = ap box_turn (one_told box_at box_turn box_typed_once box_turn_once lines m n x.0 y.0 x.1 y.1).0
 
 -- ---- what is printed
 
@@ -125,7 +113,7 @@ pub lines_decide : LinesDecide
 lines_decide =
     record {
       state = one_state;
-      flow_calls = λ lines m n h k x y. one_told flow_at flow_turn flow_typed_once flow_once lines m n h k x y;
-      box_calls = λ lines m n h k x y. one_told box_at box_turn box_typed_once box_once lines m n h k x y;
+      flow_calls = λ lines m n h k x y. one_told flow_at flow_turn flow_typed_once flow_turn_once lines m n h k x y;
+      box_calls = λ lines m n h k x y. one_told box_at box_turn box_typed_once box_turn_once lines m n h k x y;
       printed = one_printed;
     }

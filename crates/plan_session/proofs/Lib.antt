@@ -1,8 +1,8 @@
 pub mod Typed
 pub mod Called
 pub mod Shown
-pub mod Promised
 pub mod Once
+pub mod Promised
 pub mod Decided
 pub mod Told
 pub mod Stages

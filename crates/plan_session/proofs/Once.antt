@@ -22,10 +22,16 @@ use Rattle.plan_session.specs.Sessions.{BeginsFor, FirstHears, Hears, HearsForm,
 use Rattle.plan_session.specs.Views.{Heard, View}
 use Rattle.plan_session.specs.declared.reply.Reply.{Reply}
 
-pub one_said : (line : List ℕ) (o o' : Option PlanForm) → Says line o → Says line o' → o ≡ o'
+one_said : (line : List ℕ) (o o' : Option PlanForm) → Says line o → Says line o' → o ≡ o'
 one_said line o (Some f) s s' = said_form line o s f s'.0 s'.1
 one_said line (Some f) None s s' = absurd (s' f s.0 s.1)
 one_said line None None s s' = refl
+
+same_some : {A : Type 0} (x y : A) → Some x ≡ Some y → x ≡ y
+same_some x y e = cc
+
+pub same_form : (line : List ℕ) (f g : PlanForm) → Says line (Some f) → Says line (Some g) → f ≡ g
+same_form line f g s t = same_some f g (one_said line (Some f) (Some g) s t)
 
 pub one_judged : (M : Measure) (t : TurnForm) (f g : Option Refusal) → Judged M t f → Judged M t g → f ≡ g
 one_judged M t f g x y =
@@ -99,6 +105,12 @@ box_typed_once p q e =
     let left = same_left p.left p.right q.left q.right e in
     let right = same_right p.left p.right q.left q.right e in
     λ i. record { left = left i; right = right i }
+
+pub flow_turn_once : (m n : Made Flow) → flow_turn m ≡ flow_turn n → m ≡ n
+flow_turn_once m n e = cc
+
+pub box_turn_once : (m n : Made Branches) → box_turn m ≡ box_turn n → m ≡ n
+box_turn_once m n e = cc
 
 -- ---- a session
 one_begun : (t : TurnForm) (f : Option Refusal) (r q : Reply) (s u : State) → BeginsFor f t r s → BeginsFor f t q u → (r ≡ q) × (s ≡ u)

@@ -1,5 +1,5 @@
 -- Every line keeps the promise.
-use Rattle.std.proofs.Common.{◌≡◌, ◌⊎◌, inl, inr, ℕ, false, true, List, [], ◌∷◌, Some, None, Option, sym, refl, ap, subst, ◌∙◌}
+use Rattle.std.proofs.Common.{◌≡◌, ◌⊎◌, inl, inr, ℕ, false, true, List, [], ◌∷◌, Some, None, Option, sym, refl, ap, subst}
 use Rattle.ordinate.specs.Kinds.{Kind, Lawful}
 use Rattle.ordinate.specs.Flows.{flow}
 use Rattle.ordinate.specs.Boxes.{box}
@@ -20,7 +20,6 @@ use Rattle.planner.specs.Runs.{agreed}
 use Rattle.planner.specs.declared.begin.Terms.{Terms}
 use Rattle.plan_text.specs.Forms.{PlanForm, Says}
 use Rattle.plan_text.specs.Forms.PlanForm.{turn as turn_form, span as span_form, strike as strike_form, seal as seal_form}
-use Rattle.plan_text.proofs.OneForm.{one_form}
 use Rattle.plan_text.specs.declared.form.At.{At}
 use Rattle.plan_text.specs.declared.form.Kind.{Kind as TypedKind}
 use Rattle.plan_text.specs.declared.form.Kind.TheVariants as Kinds
@@ -30,14 +29,12 @@ use Rattle.plan_text.specs.declared.form.TurnForm.{TurnForm}
 use Rattle.plan_session.specs.Makings.{Answers, Calls, InPlace, Judged, Made, any_made, fresh, rule_of, terms_of}
 use Rattle.plan_session.specs.Promises.{KeepsPromise, NoTurn, Promise, SaysCall, StandsFor}
 use Rattle.plan_session.specs.Sessions.{BeginsFor, FirstHears, Hears, HearsForm, State, waiting, flow_turn, box_turn, flow_at, box_at, begun_by, measure_of, state_of}
+use Rattle.plan_session.proofs.Once.{same_form}
 use Rattle.plan_session.specs.declared.any_making.AnyMaking.{AnyMaking}
 use Rattle.plan_session.specs.declared.any_making.AnyMaking.TheVariants as Any
 use Rattle.plan_session.specs.declared.reply.Reply.{Reply}
 use Rattle.plan_session.specs.declared.stage.Stage.{Stage}
 use Rattle.plan_session.specs.declared.stage.Stage.TheVariants as Stages
-
-same : (line : List ℕ) (f g : PlanForm) → Says line (Some f) → Says line (Some g) → g ≡ f
-same line f g s t = one_form g f t.0 s.0 (sym t.1 ∙ s.1)
 
 module _ {P : Type 0} (at : P → At) (wrap : Made P → State) where
   module _ (line : List ℕ) (lines : List (List ℕ)) where
@@ -53,7 +50,7 @@ module _ {P : Type 0} (at : P → At) (wrap : Made P → State) where
     )
 
     says_only : (f : PlanForm) → Says line (Some f) → ((call : Call P) → StandsFor at wrap f call → ⊥) → (call : Call P) → SaysCall at wrap line call → ⊥
-    says_only f s n call sc = n call (subst (λ (x : PlanForm). StandsFor at wrap x call) (same line f sc.0 s sc.1) sc.2)
+    says_only f s n call sc = n call (subst (λ (x : PlanForm). StandsFor at wrap x call) (same_form line sc.0 f sc.1 s) sc.2)
 
     in_place : (m m' : Made P) (f : PlanForm) (r : Reply) → LawfulSetting m.setting → m.sealed ≡ false → Says line (Some f) → InPlace at m f r m' → KeepsPromise at wrap lines m → KeepsPromise at wrap (line ∷ lines) m'
     in_place m m' (turn_form t) r law o s a k = stays m m' a.1 k (inr (says_only (turn_form t) s (λ call b. b)))
@@ -98,13 +95,13 @@ module _ (line : List ℕ) (lines : List (List ℕ)) where
   no_more : (s' : State) (f : PlanForm) → Says line (Some f) → (IsTurn f → ⊥) → s' ≡ waiting → NoTurn lines → Promise (line ∷ lines) s'
   unfolding IsTurn
   no_more s' f s n e k =
-      subst (Promise (line ∷ lines)) (sym e) (k, λ t st. absurd (n (subst IsTurn (same line f (turn_form t) s st) tt)))
+      subst (Promise (line ∷ lines)) (sym e) (k, λ t st. absurd (n (subst IsTurn (same_form line (turn_form t) f st s) tt)))
 
   begins_for : (s' : State) (t : TurnForm) (r : Reply) (f : Option Refusal) → Says line (Some (turn_form t)) → Judged (measure_of t.kind) t f → BeginsFor f t r s' → NoTurn lines → Promise (line ∷ lines) s'
   begins_for s' t r None s h b n = subst (Promise (line ∷ lines)) (sym b.1) (begun_promise t.kind t refl s h n)
   begins_for s' t r (Some f) s h b n =
       subst (Promise (line ∷ lines)) (sym b.1)
-      (n, λ u su. (f, subst IsRefused (sym (same line (turn_form t) (turn_form u) s su)) h))
+      (n, λ u su. (f, subst IsRefused (same_form line (turn_form t) (turn_form u) s su) h))
     where
       IsRefused : PlanForm → Type 0
       IsRefused (turn_form u) = Judged (measure_of u.kind) u (Some f)

@@ -33,6 +33,7 @@ use Rattle.plan_text.specs.declared.form.TurnForm.{TurnForm}
 use Rattle.plan_session.specs.Makings.{Judged, Made, fresh, rule_of, terms_of}
 use Rattle.plan_session.specs.Promises.{KeepsPromise, Tells}
 use Rattle.plan_session.specs.Sessions.{State, flow_turn, box_turn, flow_at, box_at, begun_by, measure_of}
+use Rattle.plan_session.proofs.Once.{box_turn_once, flow_turn_once}
 use Rattle.plan_session.proofs.Promised.{lawful_setting}
 
 at_most : (z : ℤ) (n : ℕ) → (pos n <ℤ z → ⊥) → agreed_number z ≤ n
@@ -70,18 +71,12 @@ sound_begun K M law measured t j =
     }
 
 flow_begun : (k : TypedKind) (t : TurnForm) (m : Made Flow) → flow_turn m ≡ begun_by k t → Judged (measure_of k) t None → Sound flow m
-flow_begun Kinds.Flow t m e j = subst (λ (n : Made Flow). Sound flow n) (sym (same m _ e)) (sound_begun flow flow_measure flow_lawful flow_measured t j)
-  where
-    same : (m n : Made Flow) → flow_turn m ≡ flow_turn n → m ≡ n
-    same m n e = cc
+flow_begun Kinds.Flow t m e j = subst (λ (n : Made Flow). Sound flow n) (sym (flow_turn_once m _ e)) (sound_begun flow flow_measure flow_lawful flow_measured t j)
 flow_begun Kinds.Box t m e j = absurd cc
 
 box_begun : (k : TypedKind) (t : TurnForm) (m : Made Branches) → box_turn m ≡ begun_by k t → Judged (measure_of k) t None → Sound box m
 box_begun Kinds.Flow t m e j = absurd cc
-box_begun Kinds.Box t m e j = subst (λ (n : Made Branches). Sound box n) (sym (same m _ e)) (sound_begun box box_measure box_lawful box_measured t j)
-  where
-    same : (m n : Made Branches) → box_turn m ≡ box_turn n → m ≡ n
-    same m n e = cc
+box_begun Kinds.Box t m e j = subst (λ (n : Made Branches). Sound box n) (sym (box_turn_once m _ e)) (sound_begun box box_measure box_lawful box_measured t j)
 
 module _ {P : Type 0} (K : Kind P) (at : P → At) (wrap : Made P → State) (begun : (k : TypedKind) (t : TurnForm) (m : Made P) → wrap m ≡ begun_by k t → Judged (measure_of k) t None → Sound K m) where
   sound : (lines : List (List ℕ)) (m : Made P) (h : History P) → Tells at wrap lines m h → Sound K m

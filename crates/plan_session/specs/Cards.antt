@@ -24,9 +24,11 @@ module _ {P : Type 0} (K : Kind P) where
   abbrev pub MakesCard : Made P → Option (Vec ℕ) → Type 0
   MakesCard m card = ((m.sealed ≡ false) × (card ≡ None)) ⊎ ((m.sealed ≡ true) × IsCard m.contents.legs card)
 
-  -- The reader accepts the card, and reads the turn's legs; and a sealed turn has one.
+  -- The card of a sealed turn carries its legs, has no octet behind them, and is one that the reader accepts; and every sealed turn has one.
   abbrev pub IsRead : Made P → Option (Vec ℕ) → Type 0
-  IsRead m (Some card) = (m.sealed ≡ true) × Carries K (vec_items card) m.contents.legs × First (reasons K (vec_items card)) None
+  IsRead m (Some card) =
+      (m.sealed ≡ true) × Carries K (vec_items card) m.contents.legs × (length (vec_items card) ≡ 8 + record_length K * length m.contents.legs)
+      × First (reasons K (vec_items card)) None
   IsRead m None = m.sealed ≡ false
 
 abbrev pub StateCard : State → Option (Vec ℕ) → Type 0
@@ -43,6 +45,6 @@ StateIsRead (box_turn m) card = IsRead box m card
 abbrev pub GivesCard : View → Option (Vec ℕ) → Type 0
 GivesCard v card = ((v.refused ≡ true) × (card ≡ None)) ⊎ ((v.refused ≡ false) × StateCard v.state card)
 
--- Where the promise holds, the card that it gives is one that its reader accepts.
+-- So it is where the promise holds.
 abbrev pub GivesReadCard : View → Option (Vec ℕ) → Type 0
 GivesReadCard v card = ((v.refused ≡ true) × (card ≡ None)) ⊎ ((v.refused ≡ false) × StateIsRead v.state card)

@@ -4,7 +4,7 @@ use Rattle.leg.specs.declared.leg.Leg.{Leg}
 use Rattle.plan_text.specs.Lines.{lines_of}
 use Rattle.plan_text.specs.Printing.{leg_line, refused_line}
 use Rattle.plan_text.specs.declared.form.At.{At}
-use Rattle.plan_session.specs.Cards.{GivesCard, GivesReadCard}
+use Rattle.plan_session.specs.Cards.{GivesReadCard}
 use Rattle.plan_session.specs.Promises.{Promise}
 use Rattle.plan_session.specs.Replies.{reply_text}
 use Rattle.plan_session.specs.Sessions.{State, waiting, flow_turn, box_turn, flow_at, box_at}
@@ -50,8 +50,7 @@ pub record Reads (text : List ℕ) (a : Planned) : Type 0 where
   pub view : View
   pub printed : Printed (newest_first (lines_of text) []) view (vec_items a.printed)
   pub promise : Promise (newest_first (lines_of text) []) view.state
-  pub card : GivesCard view a.card
-  pub read : GivesReadCard view a.card
+  pub card : GivesReadCard view a.card
 
 -- A longer text is refused as a whole.
 abbrev pub AnswersText : List ℕ → Planned → Type 0

@@ -5,5 +5,4 @@ use Rattle.plan_session.proofs.text.answer_text.Goals as goal
 pub returns : goal.returns
 returns c =
     let heard = c.in_ok-printed.ensures in
-    let gives = c.in_ok-card.ensures in
-    inl (c.in_default.ensures, record { view = view_of c.print_answers.new.session; printed = heard.0; promise = heard.1; card = gives.card; read = gives.read _ heard.1 })
+    inl (c.in_default.ensures, record { view = view_of c.print_answers.new.session; printed = heard.0; promise = heard.1; card = c.in_ok-card.ensures.read _ heard.1 })
