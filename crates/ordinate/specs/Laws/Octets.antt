@@ -1,10 +1,10 @@
--- Numbers as octets: one octet more, their length, and that each is told by the other.
+-- Numbers as octets: one octet more, their length, and that octets tell the number.
 use Rattle.std.specs.Prelude.{◌≡◌, ℕ, zero, suc, ◌+◌, ◌*◌, ◌/◌, ◌%◌, ◌^◌, ◌<◌, ◌≤◌, List, [], ◌∷◌, ◌++◌, length, take, drop, ℤ, pos, negsuc, neg_ℤ, ◌≤ℤ◌, FitsSigned, slice_index, slice_index_or, refl}
 use Rattle.std.proofs.Common.{sym, ap, subst, ◌∙◌, pow-suc, add-one, arith, length-append, drop-cons, of_z, to_z}
 use Rattle.std.proofs.Math.Nat.{div-div-eq-div-mul}
 use Rattle.std.specs.Int.{w64}
 use Rattle.std.proofs.lemmas.Nat.{div-mul-add, mod-mul-add, div_below, div-add-mod'}
-use Rattle.std.proofs.lemmas.List.{drop_all, take_all, take_more}
+use Rattle.std.proofs.lemmas.List.{same_from_push, drop_all, take_all, take_more}
 use Rattle.std.specs.Int.Digits.{number_from_digits}
 use Rattle.std.proofs.lemmas.Int.Digits.{number_push, number_more}
 use Rattle.std.proofs.lemmas.Int.{ints, to_z-of_z, of_z-to_z}
@@ -27,6 +27,17 @@ pub length_be : (n x : ℕ) → length (be n x) ≡ n
 unfolding be
 length_be zero x = refl
 length_be (suc n) x = length-append (be n (x / 256)) (x % 256 ∷ []) ∙ rw (length_be n (x / 256)) (omega arith)
+
+-- Octets tell a number that is not too large for them.
+pub be_same : (n x y : ℕ) → x < 256 ^ n → y < 256 ^ n → be n x ≡ be n y → x ≡ y
+unfolding be
+be_same zero x y h k e = omega arith
+be_same (suc n) x y h k e =
+    let p = same_from_push (be n (x / 256)) (be n (y / 256)) (x % 256) (y % 256) e in
+    let hx : x < 256 ^ n * 256 = rw (pow-suc 256 n) at h in
+    let hy : y < 256 ^ n * 256 = rw (pow-suc 256 n) at k in
+    let q = be_same n (x / 256) (y / 256) (div_below x 256 (256 ^ n) (omega arith) hx) (div_below y 256 (256 ^ n) (omega arith) hy) p.0 in
+    omega (arith, p.1, q)
 
 pub be_8 : (x : ℕ) → be 8 x ≡ (x / 72057594037927936 % 256) ∷ (x / 281474976710656 % 256) ∷ (x / 1099511627776 % 256) ∷ (x / 4294967296 % 256) ∷ (x / 16777216 % 256) ∷ (x / 65536 % 256) ∷ (x / 256 % 256) ∷ (x % 256) ∷ []
 unfolding be
@@ -100,6 +111,11 @@ between_fits low high (negsuc n) a b w = record { sfits = omega (arith, ints) }
 twos_small : (z : ℤ) → FitsSigned w64 z → twos z < 18446744073709551616
 twos_small (pos n) h = let s = h.sfits in omega (arith, ints)
 twos_small (negsuc n) h = omega (arith, ints)
+
+pub octets_same : (y z : ℤ) → FitsSigned w64 y → FitsSigned w64 z → octets_of y ≡ octets_of z → y ≡ z
+octets_same y z h k e =
+    let back : (x : ℤ) → FitsSigned w64 x → to_z w64 (twos x) ≡ x = (λ x f. ap (to_z w64) (twos_is x) ∙ to_z-of_z w64 x f) in
+    sym (back y h) ∙ ap (to_z w64) (be_same 8 (twos y) (twos z) (twos_small y h) (twos_small z k) e) ∙ back z k
 
 pub number_small : (xs : List ℕ) → ((i : ℕ) → slice_index xs i < 256) → (n : ℕ) → length xs ≡ n → number_from_digits 256 xs < 256 ^ n
 number_small xs h n l = subst (λ (k : ℕ). number_from_digits 256 xs < 256 ^ k) l (number_under xs h)

@@ -1,12 +1,12 @@
--- Points: their coordinates, one after another.
+-- Points: their coordinates, and that octets tell a point.
 use Rattle.std.specs.Prelude.{◌≡◌, ℕ, zero, suc, ◌+◌, ◌*◌, ◌<◌, ◌≤◌, List, [], ◌++◌, length, take, drop, ℤ, pos, FitsSigned, refl}
-use Rattle.std.proofs.Common.{inl, inr, sym, ap, ap₂, ◌∙◌, add-one, arith, length-append, length-drop, take_all}
+use Rattle.std.proofs.Common.{inl, inr, sym, ap, ap₂, subst, ◌∙◌, add-one, arith, length-append, length-drop, take_all}
 use Rattle.std.specs.Int.{w64}
 use Rattle.std.proofs.lemmas.List.{drop_at, take-append-le, drop-append-le}
 use Rattle.std.proofs.lemmas.Bool.{cases_lt}
 use Rattle.ordinate.specs.Octets.{twos, octets_of}
-use Rattle.ordinate.specs.Kinds.{Kind, Lawful, Between, Admitted, blank, coordinates, one, two}
-use Rattle.ordinate.specs.Laws.Octets.{length_be, between_fits}
+use Rattle.ordinate.specs.Kinds.{Kind, Lawful, Between, Admitted, InRange, blank, coordinates, point_octets, one, two}
+use Rattle.ordinate.specs.Laws.Octets.{length_be, between_fits, octets_same}
 
 -- ---- one and two coordinates
 
@@ -26,9 +26,16 @@ pub two_at : (f : ℕ → ℤ) (i : ℕ) → i < 2 → two (f 0) (f 1) i ≡ f i
 two_at f zero h = refl
 two_at f (suc i) h = one_at (λ j. f (suc j)) i (omega arith)
 
+pub between_as : (low high : ℤ) {y z : ℤ} → y ≡ z → Between low high y → Between low high z
+between_as low high e h = subst (λ (x : ℤ). Between low high x) e h
+
 pub one_range : (low high a : ℤ) → Between low high a → (i : ℕ) → i < 1 → Between low high (one a i)
 one_range low high a h zero l = h
 one_range low high a h (suc i) l = absurd (omega arith)
+
+pub two_range : (low high a b : ℤ) → Between low high a → Between low high b → (i : ℕ) → i < 2 → Between low high (two a b i)
+two_range low high a b h k zero l = h
+two_range low high a b h k (suc i) l = one_range low high b k i (omega arith)
 
 -- ---- coordinates, one after another
 pub coordinates_none : (f : ℕ → ℤ) → coordinates 0 f ≡ []
@@ -70,6 +77,13 @@ coordinates_at (suc n) i f h =
 module _ {P : Type 0} (K : Kind P) (law : Lawful K) where
   pub admitted_fits : (z : ℤ) → Admitted K z → FitsSigned w64 z
   admitted_fits z w = between_fits K.least K.greatest z law.range_low.0 law.range_high.1 w
+
+  -- Points that a leg may have are told by their octets.
+  pub point_told : (p q : P) → InRange K p → InRange K q → point_octets K p ≡ point_octets K q → p ≡ q
+  point_told p q hp hq e =
+      law.same p q
+      (λ i h. octets_same (K.coordinate p i) (K.coordinate q i) (admitted_fits _ (hp i h)) (admitted_fits _ (hq i h))
+      (sym (coordinates_at K.dimension i (K.coordinate p) h) ∙ ap (λ (xs : List ℕ). take 8 (drop (8 * i) xs)) e ∙ coordinates_at K.dimension i (K.coordinate q) h))
 
   -- The point of zeros alone is the blank one.
   pub zero_blank : (p : P) → ((i : ℕ) → K.coordinate p i ≡ pos 0) → p ≡ blank K
