@@ -8,5 +8,7 @@ use distance::measure::Distance;
 pub(crate) fn wipe<P: Distance>(work: &mut [P])
     ensures { work.new ≡ replicate (length work.old) (blank P.Ordinate.kind) }
 {
-    work.fill(P::zero());
+    for i in 0..work.len() {
+        work[i] = P::zero();
+    }
 }

@@ -26,8 +26,6 @@ impl Ordinate for Branches {
 
     ghost exact = { Prim.search rules };
 
-    ghost cloned = { Prim.search rules };
-
     fn code() -> u8 {
         CODE
     }

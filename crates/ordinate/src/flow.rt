@@ -25,8 +25,6 @@ impl Ordinate for Flow {
 
     ghost exact = { Prim.search rules };
 
-    ghost cloned = { Prim.search rules };
-
     fn code() -> u8 {
         CODE
     }

@@ -52,7 +52,4 @@ pub trait Ordinate: Copy + Eq {
 
     // `==` holds exactly of a point and itself.
     ghost exact: { (p q : Self) → IsTrue (Self.eq p q) ↔ (p ≡ q) };
-
-    // A clone is made without fail, and is the point itself.
-    ghost cloned: { (p : Self) → Self.is_infallible p × ((q : Self) → Self.is_clone p q → q ≡ p) };
 }

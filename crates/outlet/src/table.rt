@@ -1,5 +1,5 @@
 //! The record table: an outlet in memory of its own.
-ghost use Rattle.std.specs.Prelude.{◌≡◌, ◌<◌, ◌≤◌, [], length, IfOk, MatchOption, slice_index_or};
+ghost use Rattle.std.specs.Prelude.{◌≡◌, ◌<◌, ◌≤◌, [], length, replicate, IfOk, MatchOption, slice_index_or};
 ghost use Rattle.outlet.specs.Outlets.{Put, blank_leg as the_blank_leg, held, kept, records_of};
 ghost use Rattle.outlet.specs.Laws.Tables.{held_within};
 
@@ -48,6 +48,27 @@ fn blank_leg<P: Ordinate>() -> Leg<P>
     }
 }
 
+/// So many records, all this leg.
+// `vec!` and `fill` clone what they write, and a kind need not say what its clones are.
+fn filled<P: Copy>(heap: Global, leg: Leg<P>, n: usize) -> Result<Vec<Leg<P>>, AllocError>
+    ensures { IfOk result (λ v. v.items ≡ replicate n leg) }
+{
+    let mut records = Vec::with_capacity(heap, n)?;
+    for _ in 0..n {
+        records.push(leg)?;
+    }
+    Ok(records)
+}
+
+/// Writes the leg over all of these records.
+fn overwrite<P: Copy>(records: &mut [Leg<P>], leg: Leg<P>)
+    ensures { records.new ≡ replicate (length records.old) leg }
+{
+    for each in records.iter_mut() {
+        *each = leg;
+    }
+}
+
 impl<P: Ordinate> RecordTable<P> {
     /// A table of so many records, all blank, with all the memory that it will need.
     pub fn start(heap: Global, capacity: usize) -> Result<RecordTable<P>, AllocError>
@@ -55,7 +76,7 @@ impl<P: Ordinate> RecordTable<P> {
     {
         let blank = blank_leg::<P>();
         Ok(RecordTable {
-            records: vec![in heap; blank; capacity]?,
+            records: filled(heap, blank, capacity)?,
             count: 0,
             blank,
         })
@@ -122,7 +143,7 @@ impl<P: Ordinate> Outlet<P> for RecordTable<P> {
         ensures blank { self.new.blank ≡ self.old.blank }
     {
         if n < self.count {
-            self.records[n..self.count].fill(self.blank);
+            overwrite(&mut self.records[n..self.count], self.blank);
             self.count = n;
         }
     }
