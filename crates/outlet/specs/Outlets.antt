@@ -1,5 +1,7 @@
 -- What an outlet holds, and what putting and keeping do to it.
 use Rattle.std.specs.Prelude.{◌≡◌, ℕ, ◌+◌, ◌-◌, ◌≤◌, List, [], ◌∷◌, ◌++◌, length, take, drop, replicate, Ok, Err, Result, codes, decimal}
+use denote.RawPtr.{Ptr}
+use Rattle.std.specs.Global.{Global}
 use Rattle.ordinate.specs.Kinds.{Kind, blank}
 use Rattle.leg.specs.Legs.{IsLeg}
 use Rattle.leg.specs.declared.leg.Leg.{Leg}
@@ -45,6 +47,17 @@ pub record Table (P : Type 0) : Type 0 where
   pub legs : List (Leg P)
   pub blanks : ℕ
   pub blank : Leg P
+
+-- The memory that the records stand in: where it begins, how many records it is for, and where it came from.
+pub record Block : Type 0 where
+  pub start : Ptr
+  pub capacity : ℕ
+  pub allocator : Global
+
+-- All that a table is: its records, and the memory that they stand in.
+pub record Placed (P : Type 0) : Type 0 where
+  pub records : Table P
+  pub block : Block
 
 module _ {P : Type 0} where
   -- What it holds, as an outlet.

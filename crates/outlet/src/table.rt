@@ -1,5 +1,5 @@
 //! The record table: an outlet in memory of its own.
-ghost use Rattle.std.specs.Prelude.{◌≡◌, ◌<◌, ◌≤◌, [], length, replicate, IfOk, MatchOption, slice_index_or};
+ghost use Rattle.std.specs.Prelude.{◌≡◌, ◌<◌, ◌≤◌, [], length, replicate, IfErr, IfOk, MatchOption, slice_index_or};
 ghost use Rattle.outlet.specs.Outlets.{Put, blank_leg as the_blank_leg, held, kept, records_of};
 ghost use Rattle.outlet.specs.Laws.Tables.{held_within};
 
@@ -20,11 +20,12 @@ pub struct RecordTable<P> {
 
 impl<P> Model for RecordTable<P> {
     ghost use Rattle.std.specs.Prelude.{◌-◌, length, take};
-    ghost use Rattle.outlet.specs.Outlets.{BlankFrom, Table};
+    ghost use Rattle.std.specs.Vec.{vec_allocator, vec_capacity, vec_ptr};
+    ghost use Rattle.outlet.specs.Outlets.{BlankFrom, Placed, Table};
 
-    ghost Value = { Table P };
+    ghost Value = { Placed P };
 
-    ghost view = { λ t. record { legs = take t.count t.records.items; blanks = length t.records.items - t.count; blank = t.blank } };
+    ghost view = { λ t. record { records = record { legs = take t.count t.records.items; blanks = length t.records.items - t.count; blank = t.blank }; block = record { start = vec_ptr t.records; capacity = vec_capacity t.records; allocator = vec_allocator t.records } } };
 
     ghost invariant = { λ t. BlankFrom t.count t.records.items t.blank };
 }
@@ -72,7 +73,7 @@ fn overwrite<P: Copy>(records: &mut [Leg<P>], leg: Leg<P>)
 impl<P: Ordinate> RecordTable<P> {
     /// A table of so many records, all blank, with all the memory that it will need.
     pub fn start(heap: Global, capacity: usize) -> Result<RecordTable<P>, AllocError>
-        ensures { IfOk result (λ t. t ≡ record { legs = []; blanks = capacity; blank = the_blank_leg P.kind }) }
+        ensures { IfOk result (λ t. t.records ≡ record { legs = []; blanks = capacity; blank = the_blank_leg P.kind }) }
     {
         let blank = blank_leg::<P>();
         Ok(RecordTable {
@@ -84,22 +85,23 @@ impl<P: Ordinate> RecordTable<P> {
 
     /// All records: the legs, then blanks.
     pub fn records(&self) -> &[Leg<P>]
-        ensures { result.now ≡ records_of self.now }
+        ensures { result.now ≡ records_of self.now.records }
     {
         self.records.as_slice()
     }
 }
 
 // The clauses of the trait stand here once more, of the table as it is seen, since they say more of it.
-// What it holds and its blank leg are all that is seen of a table (`held_tells` in specs/Laws/Tables.antt), so put and keep leave nothing open.
+// What it holds and its blank leg are all that is seen of its records (`held_tells` in specs/Laws/Tables.antt), so put and keep leave nothing of these open.
+// Where nothing changes, the memory of the records is the same too.
 impl<P: Ordinate> Outlet<P> for RecordTable<P> {
-    ghost contents = { held };
+    ghost contents = { λ t. held t.records };
 
-    ghost lawful = { held_within };
+    ghost lawful = { λ t. held_within t.records };
 
     fn count(&mut self) -> usize
         ensures same { self.new ≡ self.old }
-        ensures value { result ≡ length self.old.legs }
+        ensures value { result ≡ length self.old.records.legs }
     {
         // Kept, not found from the records: a leg may look like the blank one.
         self.count
@@ -107,14 +109,14 @@ impl<P: Ordinate> Outlet<P> for RecordTable<P> {
 
     fn free(&mut self) -> usize
         ensures same { self.new ≡ self.old }
-        ensures value { result ≡ self.old.blanks }
+        ensures value { result ≡ self.old.records.blanks }
     {
         self.records.len() - self.count
     }
 
     fn get(&mut self, i: usize) -> Option<Leg<P>>
         ensures same { self.new ≡ self.old }
-        ensures finds { MatchOption result (length self.old.legs ≤ i) (λ l. (i < length self.old.legs) × (l ≡ slice_index_or self.old.legs i l)) }
+        ensures finds { MatchOption result (length self.old.records.legs ≤ i) (λ l. (i < length self.old.records.legs) × (l ≡ slice_index_or self.old.records.legs i l)) }
     {
         if i < self.count {
             return Some(self.records[i]);
@@ -123,8 +125,9 @@ impl<P: Ordinate> Outlet<P> for RecordTable<P> {
     }
 
     fn put(&mut self, leg: &Leg<P>) -> Result<(), PutRefusal>
-        ensures puts { Put P.kind (held self.old) leg.now result (held self.new) }
-        ensures blank { self.new.blank ≡ self.old.blank }
+        ensures puts { Put P.kind (held self.old.records) leg.now result (held self.new.records) }
+        ensures blank { self.new.records.blank ≡ self.old.records.blank }
+        ensures refused { IfErr result (λ _. self.new ≡ self.old) }
     {
         if !leg.is_leg() {
             return Err(PutRefusal::NoLeg);
@@ -139,8 +142,9 @@ impl<P: Ordinate> Outlet<P> for RecordTable<P> {
     }
 
     fn keep(&mut self, n: usize)
-        ensures keeps { held self.new ≡ kept n (held self.old) }
-        ensures blank { self.new.blank ≡ self.old.blank }
+        ensures keeps { held self.new.records ≡ kept n (held self.old.records) }
+        ensures blank { self.new.records.blank ≡ self.old.records.blank }
+        ensures whole { length self.old.records.legs ≤ n → self.new ≡ self.old }
     {
         if n < self.count {
             overwrite(&mut self.records[n..self.count], self.blank);

@@ -111,7 +111,7 @@ is_sealed (StillDraft d) = false
 is_sealed (NowSealed s) = true
 
 abbrev pub made : {P R : Type 0} → Kind P → Measure → Rule P → Making P R → Made P
-made K M R m = record { setting = agreed K M R m.terms; progress = turn_progress m.turn; contents = held m.table; sealed = is_sealed m.turn }
+made K M R m = record { setting = agreed K M R m.terms; progress = turn_progress m.turn; contents = held m.table.records; sealed = is_sealed m.turn }
 
 abbrev pub any_made : {P : Type 0} → Kind P → Measure → AnyMaking P → Made P
 any_made K M (Chord m) = made K M (chord K) m

@@ -15,7 +15,7 @@ pub returns : goal.returns
 returns g c =
     let self = c.args.self in
     let d = c.in-Draft.draft in
-    called g.P.Ordinate.kind g.P.Distance.measure g.R.Reduction.rule self.terms self.turn c.make-turn.result.0 d (held self.table) (held c.make-turn.new.outlet) (held c.count.new.self)
+    called g.P.Ordinate.kind g.P.Distance.measure g.R.Reduction.rule self.terms self.turn c.make-turn.result.0 d (held self.table.records) (held c.make-turn.new.outlet.records) (held c.count.new.self.records)
     (length c.as_mut_slice.result.now) 99 c.count.result self.end (call_of c.args.call.now) c.make-turn.result.1 c.reply_to-reply.result
     c.in-Draft.is (self.agrees d c.in-Draft.is) self.ended (ap length c.as_mut_slice.ensures.value ∙ self.room) c.make-turn.ensures.outcome c.make-turn.ensures.sealed
-    c.count.ensures.value (ap held c.count.ensures.same) c.reply_to-reply.ensures
+    c.count.ensures.value (ap (λ t. held t.records) c.count.ensures.same) c.reply_to-reply.ensures
