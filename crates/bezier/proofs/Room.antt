@@ -16,7 +16,7 @@ spent_once a n h k = let l : a * n ≤ 8 * 8 = mul-le-mul h k in omega arith
 pub spent_all : (a n d : ℕ) → a ≤ 8 → n ≤ 8 → d < 2 ^ 32 → a * n * d ≤ 2 ^ 38
 spent_all a n d h k f = let s : d ≤ 2 ^ 32 = omega arith in let l : a * n * d ≤ 64 * 2 ^ 32 = mul-le-mul (spent_once a n h k) s in omega arith
 
-scale_small : (m : Degree) (n : ℕ) → n ≤ 8 → scale m n ≤ 64
+pub scale_small : (m : Degree) (n : ℕ) → n ≤ 8 → scale m n ≤ 64
 scale_small One n h = omega arith
 scale_small Two n h = let k : n - 1 ≤ 8 = omega arith in let l : n * (n - 1) ≤ 8 * 8 = mul-le-mul h k in omega arith
 
@@ -44,7 +44,7 @@ product_value k s t hk hs ht =
     let ek : to_z w64 k ≡ pos k = omega (arith, ints) in
     to_z-of_z w64 _ (scaled_fits k _ hk (omega (arith, ints)) (omega (arith, ints))) ∙ rw (ek, room_is s t hs ht) refl
 
-shares_scale : (m : Degree) (n j : ℕ) → (shares_of m n j).scale ≡ scale m n
+pub shares_scale : (m : Degree) (n j : ℕ) → (shares_of m n j).scale ≡ scale m n
 shares_scale One n j = refl
 shares_scale Two n j = refl
 
