@@ -90,7 +90,7 @@ module _ {P : Type 0} (K : Kind P) (M : Measure) (R : Rule P) (t D : ℕ) (ps : 
   some None n y e = absurd (cc)
   some (Some cs) n y e = let l : y.legs ≡ length (map of_cell cs) = cc in let k : y.cells ≡ n = cc in (cs, refl, l ∙ length-map cs of_cell, k)
 
-  too_bent : None ≡ counted K M R t D (piece whole ps) → ¬ (Divisible D (passing K M R t ps))
+  pub too_bent : None ≡ counted K M R t D (piece whole ps) → ¬ (Divisible D (passing K M R t ps))
   too_bent e = (halving_is_fewest.nothing D (passing K M R t ps)).0 (none found _ (e ∙ counted_are))
 
   pub record Found (y : Tally) : Type 0 where
@@ -108,10 +108,10 @@ module _ {P : Type 0} (K : Kind P) (M : Measure) (R : Rule P) (t D : ℕ) (ps : 
   abbrev pub counted_as : (y : Tally) → Counted K M R t D ps y → Found y
   counted_as y n = record { cells = n.0; is = n.1.found; legs = n.2; tries = n.3 }
 
-  is_fewest : (y : Tally) (f : Found y) → Fewest D (passing K M R t ps) f.cells
+  pub is_fewest : (y : Tally) (f : Found y) → Fewest D (passing K M R t ps) f.cells
   is_fewest y f = halving_is_fewest.found D (passing K M R t ps) f.cells f.is
 
-  divisible : (y : Tally) → Found y → Divisible D (passing K M R t ps)
+  pub divisible : (y : Tally) → Found y → Divisible D (passing K M R t ps)
   divisible y f = (f.cells, (is_fewest y f).division)
 
   pub same_number : (y : Tally) (f : Found y) (cs : List Cell) → Fewest D (passing K M R t ps) cs → length cs ≡ y.legs
