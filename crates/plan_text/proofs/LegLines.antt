@@ -38,19 +38,19 @@ module _ {P : Type 0} (K : Kind P) (at : P → At) (same : (p : P) → numbers_o
   typed_numbers (One a) f = f 0 (omega arith)
   typed_numbers (Two a b) f = (f 0 (omega arith), f 1 (omega arith))
 
-  point_size : (p : P) → InRange K p → (a : At) → a ≡ at p → length (spaced (at_text a ∷ [])) ≤ 29
+  pub point_size : (p : P) → InRange K p → (a : At) → a ≡ at p → length (spaced (at_text a ∷ [])) ≤ 29
   point_size p h a e = at_size a (subst IsTypedAt (sym e) (typed_numbers (at p) (number_few p h)))
 
 -- ---- its ticks, cell and degree
 
 module _ (h : Stretch) (s : Stands h) where
-  from_size : length (spaced (natural_field (codes "from") h.from ∷ [])) ≤ 13
+  pub from_size : length (spaced (natural_field (codes "from") h.from ∷ [])) ≤ 13
   from_size = field_size 5 h.from (codes "from") (omega arith) (omega (arith, s.begins)) (omega (arith, s.begins))
 
-  ticks_size : length (spaced (natural_field (codes "ticks") h.ticks ∷ [])) ≤ 13
+  pub ticks_size : length (spaced (natural_field (codes "ticks") h.ticks ∷ [])) ≤ 13
   ticks_size = field_size 4 h.ticks (codes "ticks") (omega arith) (omega (arith, s.brief)) (omega (arith, s.brief))
 
-  cell_size : length (spaced (listed (codes "cell") (natural_text h.cell.depth ∷ natural_text h.cell.index ∷ []) ∷ [])) ≤ 15
+  pub cell_size : length (spaced (listed (codes "cell") (natural_text h.cell.depth ∷ natural_text h.cell.index ∷ []) ∷ [])) ≤ 15
   cell_size =
       let cells : 2 ^ h.cell.depth ≤ 2 ^ 10 = pow-le-pow_right (omega arith) s.shallow in
       let small : h.cell.index < 1024 = omega (arith, s.inside, cells) in
@@ -61,7 +61,7 @@ module _ (h : Stretch) (s : Stands h) where
         natural_size 4 h.cell.index (omega arith) (omega (arith, small)) (omega (arith, small)),
       )
 
-degree_size : (m : ℕ) → (m ≡ 1) ⊎ (m ≡ 2) → length (spaced (natural_field (codes "degree") m ∷ [])) ≤ 11
+pub degree_size : (m : ℕ) → (m ≡ 1) ⊎ (m ≡ 2) → length (spaced (natural_field (codes "degree") m ∷ [])) ≤ 11
 degree_size m e =
     let small : m ≤ 2 = ⊎_elim (λ (x : m ≡ 1). omega arith) (λ (x : m ≡ 2). omega arith) e in
     field_size 1 m (codes "degree") (omega arith) (omega arith) (omega arith)
