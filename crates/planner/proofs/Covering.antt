@@ -34,7 +34,7 @@ module _ {P : Type 0} (K : Kind P) (a : ℤ) where
   none_covers (l ∷ ls) n = inr (n l, none_covers ls n)
 
   -- what is told is told once
-  not_none : (ls : List (Leg P)) (p : P) → FirstTells K ls a (Some p) → FirstTells K ls a None → ⊥
+  pub not_none : (ls : List (Leg P)) (p : P) → FirstTells K ls a (Some p) → FirstTells K ls a None → ⊥
   not_none [] p f g = cc
   not_none (l ∷ ls) p (inl f) (inl g) = let q = g.1 in cc
   not_none (l ∷ ls) p (inl f) (inr g) = g.0 f.0

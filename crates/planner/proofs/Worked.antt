@@ -38,7 +38,7 @@ module _ {P : Type 0} (A : Setting P) (shallow : A.depth ≤ 10) (ps : List P) (
   first_alike now o (inr (a, inr (p, inr (b, inr (d, inr (e, inr (f, inl (g, (x, q), r)))))))) = inr (a, inr (p, inr (b, inr (d, inr (e, inr (f, inl (g, (alike (work_wanted A.kind A.measure A.rule A.depth ps) (wanted A.depth (length ps) shallow (few p)) x, q), r)))))))
   first_alike now o (inr (a, inr (p, inr (b, inr (d, inr (e, inr (f, inr (k, t)))))))) = inr (a, inr (p, inr (b, inr (d, inr (e, inr (f, inr (λ g y. k g (back (work_wanted A.kind A.measure A.rule A.depth ps) (wanted A.depth (length ps) shallow (few p)) y.0, y.1), t)))))))
 
-  outcome_alike : (g g' : Progress P) (c c' : Contents P) (a : Answer) → Outcome A (lay ps l n) g c a g' c' → Outcome A (lay ps l w) g c a g' c'
+  pub outcome_alike : (g g' : Progress P) (c c' : Contents P) (a : Answer) → Outcome A (lay ps l n) g c a g' c' → Outcome A (lay ps l w) g c a g' c'
   outcome_alike g g' c c' a o = record { answer = first_alike (facing A g c) (refusal a) o.answer; effect = go a o.effect }
     where
       go : (b : Answer) → Effect A (lay ps l n) b g c g' c' → Effect A (lay ps l w) b g c g' c'
