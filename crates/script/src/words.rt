@@ -6,7 +6,7 @@ use std::alloc::Global;
 use std::str::{FromStr, Split};
 
 /// The words that are left of a line.
-#[derive(Drop)]
+#[derive(Clone, Drop)]
 pub struct Words<'a> {
     left: Split<'a, char>,
 }
@@ -50,18 +50,20 @@ impl<'a> Words<'a> {
 
     /// The points that the rest of the line is.
     pub fn points<P: Ordinate>(&mut self, heap: Global) -> anyhow::Result<Vec<P>> {
-        let mut coordinates = Vec::new(heap);
-        for word in &mut self.left {
-            coordinates.push(number_of::<i64>(word)?)?;
-        }
-        let each = coordinates.chunks_exact(P::dimension());
-        if each.remainder().len() > 0 {
-            bail!("there is a number too few");
-        }
         let mut points = Vec::new(heap);
-        for point in each {
-            let numbered = point.iter().enumerate();
-            points.push(numbered.fold(P::zero(), |point, (i, x)| point.with_coordinate(i, *x)))?;
+        let mut point = P::zero();
+        // How many coordinates the point has so far: a long line is not to stand in memory as numbers and as points.
+        let mut i = 0usize;
+        for word in &mut self.left {
+            point = point.with_coordinate(i, number_of::<i64>(word)?);
+            i = i.saturating_add(1);
+            if i == P::dimension() {
+                points.push(point)?;
+                i = 0;
+            }
+        }
+        if i > 0 {
+            bail!("there is a number too few");
         }
         Ok(points)
     }

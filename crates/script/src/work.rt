@@ -52,7 +52,9 @@ fn work<P: Ordinate, G: Player<P>, O: Outlet<P> + Shown + Drop>(
     tell_state::<P, O>(rt, &mut outlet)?;
     let mut player = G::new();
     for text in input {
-        match read::<P, G>(rt.alloc(), text?.as_str())? {
+        // In a `let` of its own, so that the text is let go before the line is acted on.
+        let line = read::<P, G>(rt.alloc(), text?.as_str())?;
+        match line {
             Line::Start(start) => return Ok(Some(start)),
             Line::Call(call) => player.play::<O>(rt, &mut outlet, call)?,
         }
