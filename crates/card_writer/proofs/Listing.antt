@@ -97,3 +97,8 @@ module _ {P : Type 0} (K : Kind P) where
         limit = capacity_limit K (length ls) n fit.fits;
         octets = card ∙ ap (card_of K ls) (sym len);
       }
+
+  pub carries_written : (n : ℕ) (ls : List (Leg P)) (xs : List ℕ) → length xs ≡ n → Carries K xs ls → written K ls n ≡ xs
+  carries_written n ls xs len h =
+      let room = h.room in
+      written_long K ls n (omega arith) ∙ ap (card_of K ls) (sym len) ∙ sym h.octets
