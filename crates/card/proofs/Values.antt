@@ -39,10 +39,10 @@ module _ (xs : List ℕ) (a : ℕ) where
   past_reasons = because PastEnd PastLastLeg ∷ []
 
   module _ (accepted : First (reasons flow xs) None) (ls : List (Leg Flow)) (h : Carries flow xs ls) where
-    value_past : FirstTells ls a None → First (value_reasons xs a) (Some PastLastLeg)
+    pub value_past : FirstTells ls a None → First (value_reasons xs a) (Some PastLastLeg)
     value_past t = first_later (reasons flow xs) past_reasons _ accepted (inl (PastLastLeg, ((ls, h, untold_past a ls h.legs h.chained t), refl), refl))
 
-    value_told : (v : Flow) → FirstTells ls a (Some v) → First (value_reasons xs a) None
+    pub value_told : (v : Flow) → FirstTells ls a (Some v) → First (value_reasons xs a) None
     value_told v t =
         first_later (reasons flow xs) past_reasons _ accepted
         (inr (λ f x. told_not_past a ls v h.chained t (subst (λ (ms : List (Leg Flow)). Past ms a) (carried_one flow xs flow_lawful x.0.0 ls x.0.1 h) x.0.2), refl))

@@ -181,7 +181,7 @@ module _ {P : Type 0} (K : Kind P) where
         ∙ ap₂ (λ (ms : List (Leg P)) (o : List ℕ). ms ++ (leg_of K o ∷ [])) (first_same n xs ys (rewritten_before xs n (record_octets K l) (n + 1) ys put_room put_small put_form)) here
         ∙ ap (λ (m : Leg P). legs_on K xs ++ (m ∷ [])) (leg_read K law l il)
 
-    put_held : on_card K ys ≡ with_legs (on_card K xs) (l ∷ [])
+    pub put_held : on_card K ys ≡ with_legs (on_card K xs) (l ∷ [])
     put_held =
         ap₂ (λ (ms : List (Leg P)) (c : ℕ). record { legs = ms; capacity = c }) put_legs (ap (capacity K) (rewritten_length xs n (record_octets K l) (n + 1) ys put_room put_small put_form))
 
@@ -244,7 +244,7 @@ module _ {P : Type 0} (K : Kind P) where
         ap (λ (j : ℕ). first_legs K j zs) (rewritten_listed xs k blanks k zs keep_room keep_small keep_form (omega arith))
         ∙ first_same k xs zs (rewritten_before xs k blanks k zs keep_room keep_small keep_form) ∙ sym (take_first k m xs (omega arith))
 
-    keep_held : on_card K zs ≡ kept k (on_card K xs)
+    pub keep_held : on_card K zs ≡ kept k (on_card K xs)
     keep_held =
         ap₂ (λ (ms : List (Leg P)) (c : ℕ). record { legs = ms; capacity = c }) keep_legs (ap (capacity K) (rewritten_length xs k blanks k zs keep_room keep_small keep_form))
 
@@ -266,7 +266,7 @@ module _ {P : Type 0} (K : Kind P) where
         carded_from xs k blanks k zs keep_room keep_small keep_form (take k ls) (sym tk) (card_front xs ls e)
         (ap₂ (λ (us vs : List ℕ). us ++ (blanks ++ vs)) body rest ∙ ap (λ (us : List ℕ). records K (take k ls) ++ us) (replicate-append-replicate (w * (m - k)) (length xs - (8 + w * m)) 0 ∙ ap (λ (j : ℕ). replicate j 0) sum))
 
-    keep_carded : Carded K xs → Carded K zs
+    pub keep_carded : Carded K xs → Carded K zs
     keep_carded h =
         let len = rewritten_length xs k blanks k zs keep_room keep_small keep_form in
         record { card = λ _. keep_card h ∙ ap (λ (ms : List (Leg P)). card_of K ms (length zs)) (sym keep_legs); short = λ s. absurd (omega arith) }
