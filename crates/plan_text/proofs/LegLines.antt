@@ -1,5 +1,5 @@
 -- The line of a leg fits.
-use Rattle.std.proofs.Common.{◌≡◌, ℕ, ◌^◌, ◌<◌, ◌≤◌, ◌⊎◌, ◌+◌, List, [], ◌∷◌, ◌++◌, length, drop, get_or, ℤ, pos, negsuc, codes, sym, refl, ap, ◌∙◌, subst, ⊎_elim, arith}
+use Rattle.std.proofs.Common.{◌≡◌, ℕ, ◌^◌, ◌<◌, ◌≤◌, ◌⊎◌, [], ◌∷◌, length, get_or, ℤ, pos, negsuc, codes, sym, refl, ap, ◌∙◌, subst, ⊎_elim, arith}
 use Rattle.std.proofs.lemmas.Int.{ints}
 use Rattle.std.proofs.Math.Nat.{pow-le-pow_right}
 use Rattle.std.proofs.lemmas.List.FromFn.{length-map-range_with_len, get_or-map-range_with_len}
@@ -14,7 +14,6 @@ use Rattle.plan_text.specs.Texts.{spaced, listed}
 use Rattle.plan_text.specs.Forms.{at_text, IsTypedAt}
 use Rattle.plan_text.specs.Notations.{numbers_of, coordinates_of, HasFewDigitsEach}
 use Rattle.plan_text.specs.Printing.{natural_text, natural_field, leg_line}
-use Rattle.plan_text.proofs.Begun.{Begun, begin, begin_item, item_fits, end_fits, finish, Done}
 use Rattle.plan_text.proofs.Sizes.{two_size, line_size, spaced_size, natural_size, field_size, at_size}
 
 -- ---- points of a leg have few digits
@@ -96,89 +95,3 @@ module _ {P : Type 0} (K : Kind P) (at : P → At) (same : (p : P) → numbers_o
         point_size K at same few l.middle h.middle_in (at l.middle) refl,
         point_size K at same few l.end h.end_in (at l.end) refl,
       )
-
--- ---- what was printed of it so far
-
-module _ {P : Type 0} (at : P → At) (l : Leg P) (fits : length (leg_line at l) ≤ 160) where
-  abbrev name : List ℕ
-  name = codes "leg"
-
-  abbrev from : List ℕ
-  from = natural_field (codes "from") l.stretch.from
-
-  abbrev ticks : List ℕ
-  ticks = natural_field (codes "ticks") l.stretch.ticks
-
-  abbrev cell : List ℕ
-  cell = listed (codes "cell") (natural_text l.stretch.cell.depth ∷ natural_text l.stretch.cell.index ∷ [])
-
-  abbrev degree : List ℕ
-  degree = natural_field (codes "degree") l.degree
-
-  module _ (s0 : List ℕ) (e0 : s0 ≡ 40 ∷ codes "leg") where
-    begun0 : Begun name [] s0
-    begun0 = begin name s0 e0
-
-    pub from_fits : length s0 + length (spaced (natural_field (codes "from") l.stretch.from ∷ [])) ≤ 160
-    unfolding leg_line
-    from_fits = item_fits name [] from (ticks ∷ cell ∷ degree ∷ at_text (at l.start) ∷ at_text (at l.middle) ∷ at_text (at l.end) ∷ []) s0 begun0 fits
-
-    module _ (s1 : List ℕ) (e1 : s1 ≡ s0 ++ spaced (natural_field (codes "from") l.stretch.from ∷ [])) where
-      begun1 : Begun name (from ∷ []) s1
-      begun1 = begin_item name [] from s0 s1 begun0 e1
-
-      pub ticks_fits : length s1 + length (spaced (natural_field (codes "ticks") l.stretch.ticks ∷ [])) ≤ 160
-      unfolding leg_line
-      ticks_fits = item_fits name (from ∷ []) ticks (cell ∷ degree ∷ at_text (at l.start) ∷ at_text (at l.middle) ∷ at_text (at l.end) ∷ []) s1 begun1 fits
-
-      module _ (s2 : List ℕ) (e2 : s2 ≡ s1 ++ spaced (natural_field (codes "ticks") l.stretch.ticks ∷ [])) where
-        begun2 : Begun name (from ∷ ticks ∷ []) s2
-        begun2 = begin_item name (from ∷ []) ticks s1 s2 begun1 e2
-
-        pub cell_fits : length s2 + length (spaced (listed (codes "cell") (natural_text l.stretch.cell.depth ∷ natural_text l.stretch.cell.index ∷ []) ∷ [])) ≤ 160
-        unfolding leg_line
-        cell_fits = item_fits name (from ∷ ticks ∷ []) cell (degree ∷ at_text (at l.start) ∷ at_text (at l.middle) ∷ at_text (at l.end) ∷ []) s2 begun2 fits
-
-        module _ (s3 : List ℕ) (e3 : s3 ≡ s2 ++ spaced (listed (codes "cell") (natural_text l.stretch.cell.depth ∷ natural_text l.stretch.cell.index ∷ []) ∷ [])) where
-          begun3 : Begun name (from ∷ ticks ∷ cell ∷ []) s3
-          begun3 = begin_item name (from ∷ ticks ∷ []) cell s2 s3 begun2 e3
-
-          pub degree_fits : length s3 + length (spaced (natural_field (codes "degree") l.degree ∷ [])) ≤ 160
-          unfolding leg_line
-          degree_fits = item_fits name (from ∷ ticks ∷ cell ∷ []) degree (at_text (at l.start) ∷ at_text (at l.middle) ∷ at_text (at l.end) ∷ []) s3 begun3 fits
-
-          module _ (s4 : List ℕ) (e4 : s4 ≡ s3 ++ spaced (natural_field (codes "degree") l.degree ∷ [])) where
-            begun4 : Begun name (from ∷ ticks ∷ cell ∷ degree ∷ []) s4
-            begun4 = begin_item name (from ∷ ticks ∷ cell ∷ []) degree s3 s4 begun3 e4
-
-            pub start_fits : length s4 + length (spaced (at_text (at l.start) ∷ [])) ≤ 160
-            unfolding leg_line
-            start_fits = item_fits name (from ∷ ticks ∷ cell ∷ degree ∷ []) (at_text (at l.start)) (at_text (at l.middle) ∷ at_text (at l.end) ∷ []) s4 begun4 fits
-
-            module _ (s5 : List ℕ) (e5 : s5 ≡ s4 ++ spaced (at_text (at l.start) ∷ [])) where
-              begun5 : Begun name (from ∷ ticks ∷ cell ∷ degree ∷ at_text (at l.start) ∷ []) s5
-              begun5 = begin_item name (from ∷ ticks ∷ cell ∷ degree ∷ []) (at_text (at l.start)) s4 s5 begun4 e5
-
-              pub middle_fits : length s5 + length (spaced (at_text (at l.middle) ∷ [])) ≤ 160
-              unfolding leg_line
-              middle_fits = item_fits name (from ∷ ticks ∷ cell ∷ degree ∷ at_text (at l.start) ∷ []) (at_text (at l.middle)) (at_text (at l.end) ∷ []) s5 begun5 fits
-
-              module _ (s6 : List ℕ) (e6 : s6 ≡ s5 ++ spaced (at_text (at l.middle) ∷ [])) where
-                begun6 : Begun name (from ∷ ticks ∷ cell ∷ degree ∷ at_text (at l.start) ∷ at_text (at l.middle) ∷ []) s6
-                begun6 = begin_item name (from ∷ ticks ∷ cell ∷ degree ∷ at_text (at l.start) ∷ []) (at_text (at l.middle)) s5 s6 begun5 e6
-
-                pub last_fits : length s6 + length (spaced (at_text (at l.end) ∷ [])) ≤ 160
-                unfolding leg_line
-                last_fits = item_fits name (from ∷ ticks ∷ cell ∷ degree ∷ at_text (at l.start) ∷ at_text (at l.middle) ∷ []) (at_text (at l.end)) [] s6 begun6 fits
-
-                module _ (s7 : List ℕ) (e7 : s7 ≡ s6 ++ spaced (at_text (at l.end) ∷ [])) where
-                  begun7 : Begun name (from ∷ ticks ∷ cell ∷ degree ∷ at_text (at l.start) ∷ at_text (at l.middle) ∷ at_text (at l.end) ∷ []) s7
-                  begun7 = begin_item name (from ∷ ticks ∷ cell ∷ degree ∷ at_text (at l.start) ∷ at_text (at l.middle) ∷ []) (at_text (at l.end)) s6 s7 begun6 e7
-
-                  pub leg_ends : length s7 + 2 ≤ 160
-                  unfolding leg_line
-                  leg_ends = end_fits name (from ∷ ticks ∷ cell ∷ degree ∷ at_text (at l.start) ∷ at_text (at l.middle) ∷ at_text (at l.end) ∷ []) s7 begun7 fits
-
-                  pub leg_printed : (before buffer : List ℕ) (size : ℕ) → size ≡ length s7 + 2 → buffer ≡ s7 ++ (41 ∷ 10 ∷ drop (length s7 + 2) before) → Done before (leg_line at l) buffer size
-                  unfolding leg_line
-                  leg_printed before buffer size e w = finish name (from ∷ ticks ∷ cell ∷ degree ∷ at_text (at l.start) ∷ at_text (at l.middle) ∷ at_text (at l.end) ∷ []) s7 before buffer size begun7 e w

@@ -9,6 +9,7 @@ pub mod Heads
 pub mod Points
 pub mod Grammars
 pub mod OneForm
+pub mod Over
 pub mod Spacing
 pub mod Sizes
 pub mod Begun

@@ -1,15 +1,11 @@
 -- The numbers of an item, one behind another.
 use Rattle.std.proofs.Common.{◌≡◌, ℕ, ◌+◌, ◌<◌, ◌≤◌, List, [], ◌∷◌, ◌++◌, map, length, get_or, take, drop, sym, refl, ap, ◌∙◌, append_assoc, append-nil, arith, length-append, take-append-drop}
-use Rattle.std.proofs.lemmas.List.{take_more, drop_more, map-append}
+use Rattle.std.proofs.lemmas.List.{take_all, take_more, drop_more, map-append}
 use Rattle.plan_text.specs.Texts.{spaced}
 
 pub spaced_append : (xs ys : List (List ℕ)) → spaced (xs ++ ys) ≡ spaced xs ++ spaced ys
 spaced_append [] ys = refl
 spaced_append (x ∷ xs) ys = ap (λ t. 32 ∷ (x ++ t)) (spaced_append xs ys) ∙ ap (λ t. 32 ∷ t) (sym (append_assoc x (spaced xs) (spaced ys)))
-
--- what was written is longer by what is written next
-pub longer : (s t u : List ℕ) → u ≡ s ++ t → length u ≡ length s + length t
-longer s t u e = ap length e ∙ length-append s t
 
 module _ {X : Type 0} (text : X → List ℕ) (xs : List X) (i : ℕ) (x : X) (here : i < length xs) (is : x ≡ get_or xs i x) where
   pub one_more : spaced (map text (take (i + 1) xs)) ≡ (spaced (map text (take i xs)) ++ (32 ∷ [])) ++ text x
@@ -35,11 +31,5 @@ module _ {X : Type 0} (text : X → List ℕ) (xs : List X) (i : ℕ) (x : X) (h
         length-append (text x) (spaced (map text (drop (i + 1) xs))),
       )
 
-  pub written_more : (s a b c : List ℕ) → a ≡ s ++ spaced (map text (take i xs)) → b ≡ a ++ (32 ∷ []) → c ≡ b ++ text x → c ≡ s ++ spaced (map text (take (i + 1) xs))
-  written_more s a b c p q r =
-      r ∙ ap (λ t. t ++ text x) (q ∙ ap (λ t. t ++ (32 ∷ [])) p)
-      ∙ regroup s (spaced (map text (take i xs))) (32 ∷ []) (text x)
-      ∙ ap (λ t. s ++ t) (sym one_more)
-    where
-      regroup : (s t u v : List ℕ) → ((s ++ t) ++ u) ++ v ≡ s ++ ((t ++ u) ++ v)
-      regroup s t u v = simp append_assoc
+pub all_spaced : {X : Type 0} (text : X → List ℕ) (xs : List X) (i : ℕ) → length xs ≤ i → spaced (map text (take i xs)) ≡ spaced (map text xs)
+all_spaced text xs i h = ap (λ ys. spaced (map text ys)) (take_all i xs h)

@@ -11,7 +11,7 @@ pub mod lines;
 pub mod notation;
 pub mod parse;
 pub mod print;
-mod printer;
+mod put;
 pub mod refusal;
 mod token;
 pub mod word;

@@ -5,7 +5,7 @@ ghost use Rattle.plan_text.specs.declared.refusal.TextRefusal.TheVariants.{Short
 ghost use Rattle.plan_text.specs.Printing.{Prints, PrintsLeg, leg_line as the_leg_line, sealed_line, refused_line};
 
 use crate::notation::Notation;
-use crate::printer::Printer;
+use crate::put::{put, put_at, put_item, put_number};
 use crate::refusal::TextRefusal;
 use leg::leg::Leg;
 
@@ -32,15 +32,20 @@ pub fn print_leg<P: Notation>(leg: &Leg<P>, buffer: &mut [u8]) -> Result<Option<
     if !leg.is_leg() {
         return Ok(None);
     }
-    let mut printer = Printer::begin(b"leg");
-    printer.put_item(b"from", &[leg.stretch.from]);
-    printer.put_item(b"ticks", &[leg.stretch.ticks]);
-    printer.put_item(b"cell", &[leg.stretch.cell.depth, leg.stretch.cell.index]);
-    printer.put_item(b"degree", &[leg.degree]);
-    printer.put_at(leg.start);
-    printer.put_at(leg.middle);
-    printer.put_at(leg.end);
-    Ok(Some(printer.end(buffer)))
+    let end = put(buffer, 0, b"(leg");
+    let end = put_item(buffer, end, b"from", &[leg.stretch.from]);
+    let end = put_item(buffer, end, b"ticks", &[leg.stretch.ticks]);
+    let end = put_item(
+        buffer,
+        end,
+        b"cell",
+        &[leg.stretch.cell.depth, leg.stretch.cell.index],
+    );
+    let end = put_item(buffer, end, b"degree", &[leg.degree]);
+    let end = put_at(buffer, end, leg.start.to_at());
+    let end = put_at(buffer, end, leg.middle.to_at());
+    let end = put_at(buffer, end, leg.end.to_at());
+    Ok(Some(put(buffer, end, b")\n")))
 }
 
 /// Prints `(sealed (legs N) (ticks T))`, and answers the line's length.
@@ -49,10 +54,10 @@ pub fn print_sealed(legs: usize, ticks: u32, buffer: &mut [u8]) -> Result<usize,
     ensures fits { length (sealed_line legs ticks) ≤ 160 }
 {
     check_room(buffer)?;
-    let mut printer = Printer::begin(b"sealed");
-    printer.put_item(b"legs", &[legs]);
-    printer.put_item(b"ticks", &[ticks]);
-    Ok(printer.end(buffer))
+    let end = put(buffer, 0, b"(sealed");
+    let end = put_item(buffer, end, b"legs", &[legs]);
+    let end = put_item(buffer, end, b"ticks", &[ticks]);
+    Ok(put(buffer, end, b")\n"))
 }
 
 /// Prints `(refused N (line M))`, and answers the line's length. It takes a number, since most refusals are of crates that this one does not know.
@@ -61,8 +66,8 @@ pub fn print_refused(number: u32, line: usize, buffer: &mut [u8]) -> Result<usiz
     ensures fits { length (refused_line number line) ≤ 160 }
 {
     check_room(buffer)?;
-    let mut printer = Printer::begin(b"refused");
-    printer.put_numbers(&[number]);
-    printer.put_item(b"line", &[line]);
-    Ok(printer.end(buffer))
+    let end = put(buffer, 0, b"(refused ");
+    let end = put_number(buffer, end, number);
+    let end = put_item(buffer, end, b"line", &[line]);
+    Ok(put(buffer, end, b")\n"))
 }

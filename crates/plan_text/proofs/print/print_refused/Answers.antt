@@ -1,7 +1,9 @@
-use Rattle.std.proofs.Common.{◌∷◌, [], codes, arith}
+use Rattle.std.proofs.Common.{◌≡◌, ◌+◌, ◌∷◌, ◌++◌, [], List, ℕ, length, codes, sym, ap, ◌∙◌, subst, append-nil, append_assoc, arith}
+use Rattle.decimal.specs.Places.{over}
 use Rattle.plan_text.specs.Printing.{natural_text, natural_field, refused_line}
-use Rattle.plan_text.proofs.Sizes.{refused_size}
-use Rattle.plan_text.proofs.Begun.{begin, begin_item, begin_two, item_fits, end_fits, finish}
+use Rattle.plan_text.proofs.Over.{Wrote, wrote_more}
+use Rattle.plan_text.proofs.Sizes.{natural_size, field_size, refused_size}
+use Rattle.plan_text.proofs.Begun.{Begun, begin_item, finish}
 use Rattle.plan_text.proofs.print.print_refused.Goals as goal
 
 pub returns-in_err-check_room-clause-fits : goal.returns-in_err-check_room-clause-fits
@@ -10,36 +12,35 @@ returns-in_err-check_room-clause-fits c = refused_size c.args.number c.args.line
 pub returns-clause-fits : goal.returns-clause-fits
 returns-clause-fits c = refused_size c.args.number c.args.line (omega arith) (omega arith)
 
-pub put_numbers-requires : goal.put_numbers-requires
-unfolding refused_line
-put_numbers-requires c =
-    item_fits (codes "refused") [] (natural_text c.args.number) (natural_field (codes "line") c.args.line ∷ []) c.begin-printer.result
-    (begin (codes "refused") c.begin-printer.result c.begin-printer.ensures) (refused_size c.args.number c.args.line (omega arith) (omega arith))
+pub put_number-end-requires : goal.put_number-end-requires
+put_number-end-requires c = omega (arith, natural_size 10 c.args.number (omega arith) (omega arith) (omega arith))
 
-pub put_item-requires : goal.put_item-requires
-unfolding refused_line
-put_item-requires c =
-    let name = codes "refused" in
-    let number = natural_text c.args.number in
-    let one = begin name c.begin-printer.result c.begin-printer.ensures in
-    let two = begin_item name [] number c.begin-printer.result c.put_numbers.new.self one c.put_numbers.ensures in
-    item_fits name (number ∷ []) (natural_field (codes "line") c.args.line) [] c.put_numbers.new.self two (refused_size c.args.number c.args.line (omega arith) (omega arith))
+pub put_item-end-requires : goal.put_item-end-requires
+put_item-end-requires c =
+    omega (arith, natural_size 10 c.args.number (omega arith) (omega arith) (omega arith), field_size 20 c.args.line (codes "line") (omega arith) (omega arith) (omega arith))
 
-pub end-requires-clause-fits : goal.end-requires-clause-fits
-unfolding refused_line
-end-requires-clause-fits c =
-    let name = codes "refused" in
-    let number = natural_text c.args.number in
-    let line = natural_field (codes "line") c.args.line in
-    let both = begin_two name number line c.begin-printer.result c.put_numbers.new.self c.put_item.new.self c.begin-printer.ensures c.put_numbers.ensures c.put_item.ensures in
-    end_fits name (number ∷ line ∷ []) c.put_item.new.self both (refused_size c.args.number c.args.line (omega arith) (omega arith))
+pub put-requires : goal.put-requires
+put-requires c =
+    omega (arith, natural_size 10 c.args.number (omega arith) (omega arith) (omega arith), field_size 20 c.args.line (codes "line") (omega arith) (omega arith) (omega arith))
+
+-- the name, a space and the number are the line's start with its first item
+numbered : (before name number b c : List ℕ) (m n : ℕ) → b ≡ over before 0 (40 ∷ (name ++ (32 ∷ []))) → m ≡ 0 + length (40 ∷ (name ++ (32 ∷ []))) → c ≡ over b m number → n ≡ m + length number
+    → Begun before name (number ∷ []) c n
+numbered before name number b c m n e f h k =
+    subst (λ t. Wrote before 0 t c n) (regroup name number)
+    (wrote_more before 0 (40 ∷ (name ++ (32 ∷ []))) number b c m n (omega arith) (record { written = e; end_is = f }) h k)
+  where
+    regroup : (name number : List ℕ) → (40 ∷ (name ++ (32 ∷ []))) ++ number ≡ 40 ∷ (name ++ (32 ∷ (number ++ [])))
+    regroup name number = ap (λ t. 40 ∷ t) (append_assoc name (32 ∷ []) number ∙ ap (λ t. name ++ (32 ∷ t)) (sym (append-nil number)))
 
 pub returns-clause-prints : goal.returns-clause-prints
 unfolding refused_line
 returns-clause-prints c =
+    let before = c.args.buffer.now in
     let name = codes "refused" in
     let number = natural_text c.args.number in
     let line = natural_field (codes "line") c.args.line in
-    let both = begin_two name number line c.begin-printer.result c.put_numbers.new.self c.put_item.new.self c.begin-printer.ensures c.put_numbers.ensures c.put_item.ensures in
-    let done = finish name (number ∷ line ∷ []) c.put_item.new.self c.args.buffer.now c.end.new.buffer c.end.result both c.end.ensures.size c.end.ensures.written in
-    (done.whole, (c.in_ok-check_room.ensures, done.written))
+    let one = numbered before name number c.put-end.new.buffer c.put_number-end.new.buffer c.put-end.result c.put_number-end.result c.put-end.ensures.written c.put-end.ensures.end c.put_number-end.ensures.written c.put_number-end.ensures.end in
+    let two = begin_item before name (number ∷ []) line c.put_number-end.new.buffer c.put_item-end.new.buffer c.put_number-end.result c.put_item-end.result one c.put_item-end.ensures.written c.put_item-end.ensures.end in
+    let done = finish before name (number ∷ line ∷ []) c.put_item-end.new.buffer c.put.new.buffer c.put_item-end.result c.put.result two c.put.ensures.written c.put.ensures.end in
+    (done.size, (omega arith, done.whole))
