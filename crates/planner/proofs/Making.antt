@@ -15,7 +15,7 @@ use Rattle.turn.specs.declared.refusal.Refusal.{Refusal}
 use Rattle.curve.specs.declared.refusal.CurveRefusal.TheVariants.{PointCount, PointBeyond, ShortWork}
 use Rattle.turn.specs.declared.refusal.Refusal.TheVariants.{Curve, Foreign, Ticks, PastEnd, Apart}
 use Rattle.planner.specs.Drafts.{HandsBack, answer, halving_begun, left, progress, seal_left, work_left}
-use Rattle.planner.specs.Runs.{TurnKeeps, turn_left, turn_progress}
+use Rattle.planner.specs.Runs.{TurnKeeps, as_turn, turn_left, turn_progress}
 use Rattle.planner.specs.declared.draft.Draft.{Draft}
 use Rattle.planner.specs.declared.draft.Refused.{Refused}
 use Rattle.planner.specs.declared.run.Turn.{Turn}
@@ -26,6 +26,10 @@ module _ {P R : Type 0} where
   -- The step's result, with the turn in the place of what it hands back.
   abbrev pub Wrapped : {A : Type 0} → (A → Turn P R) → Result A (Refused P R) → Result (Turn P R) (Refused P R) → Type 0
   Wrapped f r m = MatchResult r (λ x. IsOkAnd m (λ t. t ≡ f x)) (λ e. m ≡ Err e)
+
+  pub as_turn_wraps : {A : Type 0} (f : A → Turn P R) (r : Result A (Refused P R)) → Wrapped f r (as_turn f r)
+  as_turn_wraps f (Ok x) = refl
+  as_turn_wraps f (Err e) = refl
 
   wrapped_answer : {A : Type 0} (f : A → Turn P R) (r : Result A (Refused P R)) (m : Result (Turn P R) (Refused P R)) → Wrapped f r m → answer m ≡ answer r
   wrapped_answer f (Ok x) (Ok t) w = refl

@@ -52,6 +52,11 @@ module _ {P R : Type 0} where
 
   -- ---- one call, made from its data
 
+  -- What a call hands back, as a turn.
+  abbrev pub as_turn : {A : Type 0} → (A → Turn P R) → Result A (Refused P R) → Result (Turn P R) (Refused P R)
+  as_turn f (Ok x) = Ok (f x)
+  as_turn f (Err r) = Err r
+
   -- What a call that hands a turn back leaves.
   abbrev pub turn_left : Result (Turn P R) (Refused P R) → Turn P R
   turn_left (Ok t) = t

@@ -7,8 +7,10 @@ use Rattle.turn.specs.Reasons.{facing}
 use Rattle.turn.specs.Settings.{Setting}
 use Rattle.turn.proofs.Kept.{kept}
 use Rattle.planner.specs.Drafts.{answer, left, progress, setting}
+use Rattle.planner.specs.Runs.{as_turn}
+use Rattle.planner.specs.declared.run.Turn.TheVariants.{Draft as StillDraft, Sealed as NowSealed}
 use Rattle.planner.proofs.Agreed.{lawful_setting}
-use Rattle.planner.proofs.Making.{sealed_came, still_answer, still_came, still_keeps, work_stays}
+use Rattle.planner.proofs.Making.{as_turn_wraps, sealed_came, still_answer, still_came, still_keeps, work_stays}
 use Rattle.planner.proofs.draft.Draft.make.Goals as goal
 
 -- ---- a lay
@@ -21,7 +23,7 @@ returns-in-Lay-clause-outcome g c =
     let used = length-take-le c.min-used.result c.args.work.now few ∙ c.min-used.ensures in
     let o = subst₂ (λ (l : ℤ) (n : ℕ). Outcome A (lay c.in-Lay.points.now l n) (progress c.args.self) (g.O.Outlet.contents c.args.outlet.now) (answer c.lay.result) (progress (left c.lay.result)) (g.O.Outlet.contents c.lay.new.outlet))
     (to_z-of_z w64 c.in-Lay.ticks fits) used c.lay.ensures.outcome in
-    rw c.in-Lay.is (still_came A _ _ _ _ c.map.result c.answered.result c.answered.ensures c.lay.result c.map.ensures.cases o)
+    rw c.in-Lay.is (still_came A _ _ _ _ (as_turn StillDraft c.lay.result) c.open.result c.open.ensures c.lay.result (as_turn_wraps StillDraft c.lay.result) o)
 
 pub returns-in-Lay-clause-keeps : goal.returns-in-Lay-clause-keeps
 returns-in-Lay-clause-keeps g c = λ h w.
@@ -30,7 +32,7 @@ returns-in-Lay-clause-keeps g c = λ h w.
     h _ _ _ _ _ _ w (returns-in-Lay-clause-outcome g c)
 
 pub returns-in-Lay-clause-same : goal.returns-in-Lay-clause-same
-returns-in-Lay-clause-same g c = still_keeps c.args.self c.map.result c.answered.result c.answered.ensures c.lay.result c.map.ensures.cases c.lay.ensures.same
+returns-in-Lay-clause-same g c = still_keeps c.args.self (as_turn StillDraft c.lay.result) c.open.result c.open.ensures c.lay.result (as_turn_wraps StillDraft c.lay.result) c.lay.ensures.same
 
 pub returns-in-Lay-clause-work : goal.returns-in-Lay-clause-work
 returns-in-Lay-clause-work g c =
@@ -40,7 +42,7 @@ returns-in-Lay-clause-work g c =
     let fits : FitsSigned w64 c.in-Lay.ticks = search rules in
     let o = subst₂ (λ (l : ℤ) (n : ℕ). Outcome A (lay c.in-Lay.points.now l n) (progress c.args.self) (g.O.Outlet.contents c.args.outlet.now) (answer c.lay.result) (progress (left c.lay.result)) (g.O.Outlet.contents c.lay.new.outlet))
     (to_z-of_z w64 c.in-Lay.ticks fits) used c.lay.ensures.outcome in
-    rw (c.in-Lay.is, still_answer c.map.result c.answered.result c.answered.ensures c.lay.result c.map.ensures.cases)
+    rw (c.in-Lay.is, still_answer (as_turn StillDraft c.lay.result) c.open.result c.open.ensures c.lay.result (as_turn_wraps StillDraft c.lay.result))
     (work_stays A (facing A (progress c.args.self) (g.O.Outlet.contents c.args.outlet.now)) c.in-Lay.points.now c.in-Lay.ticks c.min-used.result c.args.work.now c.lay.new.work (answer c.lay.result) few o.answer c.lay.ensures.work)
 
 -- ---- a strike
@@ -49,7 +51,7 @@ pub returns-in-Strike-clause-outcome : goal.returns-in-Strike-clause-outcome
 returns-in-Strike-clause-outcome g c =
     let A : Setting g.row.P.Denot = setting g.P.Ordinate.kind g.P.Distance.measure g.R.Reduction.rule c.args.self in
     rw c.in-Strike.is
-    (still_came A _ _ _ _ c.map-in-Strike.result c.answered-in-Strike.result c.answered-in-Strike.ensures c.strike.result c.map-in-Strike.ensures.cases c.strike.ensures.outcome)
+    (still_came A _ _ _ _ (as_turn StillDraft c.strike.result) c.open-in-Strike.result c.open-in-Strike.ensures c.strike.result (as_turn_wraps StillDraft c.strike.result) c.strike.ensures.outcome)
 
 pub returns-in-Strike-clause-keeps : goal.returns-in-Strike-clause-keeps
 returns-in-Strike-clause-keeps g c = λ h w.
@@ -58,7 +60,7 @@ returns-in-Strike-clause-keeps g c = λ h w.
     h _ _ _ _ _ _ w (returns-in-Strike-clause-outcome g c)
 
 pub returns-in-Strike-clause-same : goal.returns-in-Strike-clause-same
-returns-in-Strike-clause-same g c = still_keeps c.args.self c.map-in-Strike.result c.answered-in-Strike.result c.answered-in-Strike.ensures c.strike.result c.map-in-Strike.ensures.cases c.strike.ensures.same
+returns-in-Strike-clause-same g c = still_keeps c.args.self (as_turn StillDraft c.strike.result) c.open-in-Strike.result c.open-in-Strike.ensures c.strike.result (as_turn_wraps StillDraft c.strike.result) c.strike.ensures.same
 
 -- ---- a seal
 
@@ -66,7 +68,7 @@ pub returns-in-Seal-clause-outcome : goal.returns-in-Seal-clause-outcome
 returns-in-Seal-clause-outcome g c =
     let A : Setting g.row.P.Denot = setting g.P.Ordinate.kind g.P.Distance.measure g.R.Reduction.rule c.args.self in
     rw c.in-Seal.is
-    (sealed_came A _ _ _ _ c.map-in-Seal.result c.answered-in-Seal.result c.answered-in-Seal.ensures c.seal.result c.map-in-Seal.ensures.cases c.seal.ensures.outcome)
+    (sealed_came A _ _ _ _ (as_turn NowSealed c.seal.result) c.closed.result c.closed.ensures c.seal.result (as_turn_wraps NowSealed c.seal.result) c.seal.ensures.outcome)
 
 pub returns-in-Seal-clause-keeps : goal.returns-in-Seal-clause-keeps
 returns-in-Seal-clause-keeps g c = λ h w.
