@@ -76,6 +76,7 @@ impl<P: Distance, R: Reduction<P>> Draft<P, R> {
     }
 
     /// Lays a span: puts the legs of the curve of these points, over so many ticks, at the end of the draft. The work points are lent: those that are used, as many as the points for each depth from 0 to the agreed one, are left at zero.
+    #[inline]
     pub fn lay<O: Outlet<P>>(
         self,
         outlet: &mut O,
